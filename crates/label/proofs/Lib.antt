@@ -1,0 +1,3 @@
+pub mod Bool
+pub mod Set
+pub mod Laws

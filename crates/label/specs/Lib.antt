@@ -1,0 +1,3 @@
+pub mod Set
+pub mod Label
+pub mod Word

@@ -1,0 +1,62 @@
+-- Demand 3 for the machine: what a reader of a set of owners sees of two runs. This file states it; proofs/Privacy.antt proves it.
+use Prim.Native.Nat.{ℕ}
+use mathlib.Core.Path.{_≡_}
+use mathlib.Core.Logic.{_⊎_}
+use mathlib.Core.Bool.{Bool, true, false}
+use mathlib.Core.List.{List, [], _∷_}
+use lib.ListN.{length, take}
+use Rattle.label.specs.Label.{flows}
+use Rattle.program.specs.declared.Command.{Command}
+use Rattle.machine.specs.Atom.{Atom, Line}
+use Rattle.machine.specs.Rule.{Key, allowed, Policy, standard}
+use Rattle.machine.specs.State.{start}
+use Rattle.machine.specs.Run.{run}
+
+-- a line is inside a set if its label flows to the set
+abbrev pub inside : ℕ → Line → Bool
+inside S l = flows (l .label) S
+
+abbrev pub keep : Bool → Line → List Line → List Line
+keep true l ls = l ∷ ls
+keep false l ls = ls
+
+-- the view for a set: the lines inside, in order
+abbrev pub view : ℕ → List Line → List Line
+view S [] = []
+view S (l ∷ ls) = keep (inside S l) l (view S ls)
+
+-- the first list is the first lines of the second, line for line
+abbrev pub Start : List Line → List Line → Type 0
+Start xs ys = xs ≡ take (length xs) ys
+
+-- of two lists one is the start of the other
+abbrev pub OneStartsOther : List Line → List Line → Type 0
+OneStartsOther xs ys = Start xs ys ⊎ Start ys xs
+
+-- a cell is outside a set if its label does not flow to the set
+abbrev pub Outside : ℕ → Atom → Type 0
+Outside S a = flows (a .label) S ≡ false
+
+-- two runs of cells are alike for a set: equally many, each pair equal or outside in both
+pub data Alike (S : ℕ) : List Atom → List Atom → Type 0 where
+  none : Alike S [] []
+  same : {a : Atom} {xs ys : List Atom} → Alike S xs ys → Alike S (a ∷ xs) (a ∷ ys)
+  hidden : {a b : Atom} {xs ys : List Atom} → Outside S a → Outside S b → Alike S xs ys → Alike S (a ∷ xs) (b ∷ ys)
+
+-- a policy that allows only what the standard allows, and then gives its two labels
+abbrev pub Refines : Policy → Type 0
+Refines π = (k : Key) (p r : ℕ) → π k ≡ allowed p r → standard k ≡ allowed p r
+
+-- for every such policy, every program, every set of owners and any two starts from alike cells, whatever allowance and output
+-- space either has: of the two views one is the start of the other
+abbrev pub Private : Policy → Type 0
+Private π =
+    (program : List Command) (S : ℕ) (cells₁ cells₂ : List Atom) →
+    Alike S cells₁ cells₂ →
+    (room₁ room₂ fuel₁ fuel₂ : ℕ) →
+    OneStartsOther
+    (view S (run π room₁ program fuel₁ (start cells₁) .state .lines))
+    (view S (run π room₂ program fuel₂ (start cells₂) .state .lines))
+
+abbrev pub Claim : Type 0
+Claim = (π : Policy) → Refines π → Private π

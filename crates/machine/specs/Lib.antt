@@ -1,0 +1,6 @@
+pub mod Atom
+pub mod Rule
+pub mod State
+pub mod Step
+pub mod Run
+pub mod Claim

@@ -1,0 +1,52 @@
+-- Rules: whether a command is allowed, the new place label and the result label. A policy gives these for every key.
+use Prim.Native.Nat.{ℕ}
+use mathlib.Core.Bool.{Bool, true, false}
+use Rattle.label.specs.Label.{bottom, join, flows}
+use Rattle.program.specs.Command.{Opcode, add, sub, pop, output, push, load, store, jump, bnz, call, ret}
+
+-- an input of a command: its label, or the mark of a missing input
+pub data Input : Type 0 where
+  present : ℕ → Input
+  missing : Input
+
+-- what a rule is asked with: the command, the place label P and the labels L1 to L3 of the inputs
+pub record Key : Type 0 where
+  pub opcode : Opcode
+  pub pc : ℕ
+  pub input1 : Input
+  pub input2 : Input
+  pub input3 : Input
+
+-- what a rule answers: not allowed, or allowed with the new place label and the result label
+pub data Verdict : Type 0 where
+  denied : Verdict
+  allowed : ℕ → ℕ → Verdict
+
+abbrev pub Policy : Type 0
+Policy = Key → Verdict
+
+-- the label of an input that the command supplies
+abbrev pub labelOf : Input → ℕ
+labelOf (present l) = l
+labelOf missing = bottom
+
+abbrev pub allowedIf : Bool → ℕ → ℕ → Verdict
+allowedIf true p r = allowed p r
+allowedIf false p r = denied
+
+-- the standard table, as document 01 writes it: P, then L1 to L3
+abbrev pub rule : Opcode → ℕ → ℕ → ℕ → ℕ → Verdict
+rule add p l1 l2 l3 = allowed p (join l1 l2)
+rule sub p l1 l2 l3 = allowed p (join l1 l2)
+rule pop p l1 l2 l3 = allowed p bottom
+rule output p l1 l2 l3 = allowed p (join l1 p)
+rule push p l1 l2 l3 = allowed p bottom
+rule load p l1 l2 l3 = allowed p (join l1 l2)
+rule store p l1 l2 l3 = allowedIf (flows (join l1 p) l3) p (join (join l1 l2) p)
+rule jump p l1 l2 l3 = allowed (join l1 p) bottom
+rule bnz p l1 l2 l3 = allowed (join l1 p) bottom
+rule call p l1 l2 l3 = allowed (join l1 p) p
+rule ret p l1 l2 l3 = allowed l1 bottom
+
+unfoldable pub standard : Policy
+standard k = rule (k .opcode) (k .pc) (labelOf (k .input1)) (labelOf (k .input2)) (labelOf (k .input3))

@@ -1,0 +1,136 @@
+-- One step: what a command needs, what the policy says of it, what it does.
+use Prim.Native.Nat.{ℕ, zero, suc, _+_}
+use mathlib.Core.Bool.{Bool, true, false}
+use mathlib.Core.List.{List, [], _∷_, _++_}
+use lib.IntN.{ℤ, pos, negsuc, _+ℤ_}
+use lib.ListN.{length, set}
+use lib.Dec.{ltb}
+use Rattle.word.specs.Wrap.{addWrap, subWrap}
+use Rattle.program.specs.declared.Command.{Command}
+use Rattle.program.specs.declared.Command.the-variants.{Add, Sub, Pop, Output, Push, Load, Store, Jump, Bnz, Call, Ret}
+use Rattle.program.specs.Command.{opcode}
+use Rattle.machine.specs.Atom.{Atom, Entry, value, frame, Line}
+use Rattle.machine.specs.Rule.{Input, present, missing, Key, Verdict, denied, allowed, Policy}
+use Rattle.machine.specs.State.{State, Stop, valueMissing, frameMissing, addressOutside, denial, stackFull, outputFull}
+
+-- the largest number of stack entries
+abbrev pub stackLimit : ℕ
+stackLimit = 256
+
+-- a step is carried out and gives the next state, or the command is stopped
+pub data Outcome : Type 0 where
+  stopped : Stop → Outcome
+  stepped : State → Outcome
+
+-- what a command comes to before its rule: a stop, or its inputs' labels and what it does under the rule's two labels, first the new place label
+pub data Request : Type 0 where
+  halt : Stop → Request
+  ask : Input → Input → Input → (ℕ → ℕ → Outcome) → Request
+
+-- ════════════════════════════════════════════════════════════════════════════════════════════
+-- What a command needs
+-- ════════════════════════════════════════════════════════════════════════════════════════════
+
+-- a value on top
+abbrev pub withValue : List Entry → (Atom → List Entry → Request) → Request
+withValue [] k = halt valueMissing
+withValue (value a ∷ rest) k = k a rest
+withValue (frame a ∷ rest) k = halt valueMissing
+
+-- two values on top
+abbrev pub withValues : List Entry → (Atom → Atom → List Entry → Request) → Request
+withValues s k = withValue s (λ top below. withValue below (λ next rest. k top next rest))
+
+-- a frame on top
+abbrev pub withFrame : List Entry → (Atom → List Entry → Request) → Request
+withFrame [] k = halt frameMissing
+withFrame (value a ∷ rest) k = halt frameMissing
+withFrame (frame a ∷ rest) k = k a rest
+
+-- a cell at an address
+abbrev pub withElement : List Atom → ℕ → (Atom → Request) → Request
+withElement [] i k = halt addressOutside
+withElement (a ∷ cells) zero k = k a
+withElement (a ∷ cells) (suc i) k = withElement cells i k
+
+abbrev pub withCell : List Atom → ℤ → (ℕ → Atom → Request) → Request
+withCell cells (pos i) k = withElement cells i (k i)
+withCell cells (negsuc i) k = halt addressOutside
+
+-- room on the stack, room for a line
+abbrev pub provided : Bool → Stop → Outcome → Outcome
+provided true s o = o
+provided false s o = stopped s
+
+-- ════════════════════════════════════════════════════════════════════════════════════════════
+-- What it does
+-- ════════════════════════════════════════════════════════════════════════════════════════════
+
+-- the atom n with label l
+abbrev pub atom : ℤ → ℕ → Atom
+atom n l = record { number = n; label = l }
+
+-- carried out: a place and a stack, the rest as it was, one step more
+abbrev pub goto : State → Atom → List Entry → Outcome
+goto s p stack = stepped (record { pc = p; stack = stack; memory = s .memory; lines = s .lines; steps = suc (s .steps) })
+
+-- the same at the next place, with the place label p
+abbrev pub next : State → ℕ → List Entry → Outcome
+next s p stack = goto s (atom (s .pc .number +ℤ pos 1) p) stack
+
+-- Store's effect: the cell at an address
+abbrev pub storing : State → ℕ → List Entry → ℕ → Atom → Outcome
+storing s p stack i a =
+    stepped (record { pc = atom (s .pc .number +ℤ pos 1) p; stack = stack; memory = set (s .memory) i a; lines = s .lines; steps = suc (s .steps) })
+
+-- Output's effect: one line more
+abbrev pub printing : State → ℕ → List Entry → Line → Outcome
+printing s p stack l =
+    stepped (record { pc = atom (s .pc .number +ℤ pos 1) p; stack = stack; memory = s .memory; lines = s .lines ++ (l ∷ []); steps = suc (s .steps) })
+
+-- Bnz's target: place + operand if top is not 0
+abbrev pub branch : ℤ → ℤ → ℤ → ℤ
+branch (pos zero) place operand = place +ℤ pos 1
+branch (pos (suc n)) place operand = place +ℤ operand
+branch (negsuc n) place operand = place +ℤ operand
+
+-- ════════════════════════════════════════════════════════════════════════════════════════════
+-- The commands
+-- ════════════════════════════════════════════════════════════════════════════════════════════
+
+-- `room` is how many lines fit
+unfoldable pub request : ℕ → Command → State → Request
+request room Add s =
+    withValues (s .stack) (λ a b rest. ask (present (a .label)) (present (b .label)) missing (λ p r. next s p (value (atom (addWrap (a .number) (b .number)) r) ∷ rest)))
+request room Sub s =
+    withValues (s .stack) (λ a b rest. ask (present (a .label)) (present (b .label)) missing (λ p r. next s p (value (atom (subWrap (a .number) (b .number)) r) ∷ rest)))
+request room Pop s = withValue (s .stack) (λ a rest. ask (present (a .label)) missing missing (λ p r. next s p rest))
+request room Output s =
+    withValue (s .stack) (λ a rest. ask (present (a .label)) missing missing (λ p r. provided (ltb (length (s .lines)) room) outputFull (printing s p rest (record { number = a .number; label = r }))))
+request room (Push n) s =
+    ask missing missing missing (λ p r. provided (ltb (length (s .stack)) stackLimit) stackFull (next s p (value (atom n r) ∷ s .stack)))
+request room Load s =
+    withValue (s .stack) (λ a rest. withCell (s .memory) (a .number) (λ i c. ask (present (a .label)) (present (c .label)) missing (λ p r. next s p (value (atom (c .number) r) ∷ rest))))
+request room Store s =
+    withValues (s .stack) (λ a b rest. withCell (s .memory) (a .number) (λ i c. ask (present (a .label)) (present (b .label)) (present (c .label)) (λ p r. storing s p rest i (atom (b .number) r))))
+request room Jump s = withValue (s .stack) (λ a rest. ask (present (a .label)) missing missing (λ p r. goto s (atom (a .number) p) rest))
+request room (Bnz n) s =
+    withValue (s .stack) (λ a rest. ask (present (a .label)) missing missing (λ p r. goto s (atom (branch (a .number) (s .pc .number) n) p) rest))
+request room Call s =
+    withValues (s .stack) (λ a b rest. ask (present (a .label)) missing missing (λ p r. goto s (atom (a .number) p) (value b ∷ frame (atom (s .pc .number +ℤ pos 1) r) ∷ rest)))
+request room Ret s =
+    withFrame (s .stack) (λ a rest. ask (present (a .label)) missing missing (λ p r. goto s (atom (a .number) p) rest))
+
+-- the rule's answer decides
+abbrev pub decide : Verdict → (ℕ → ℕ → Outcome) → Outcome
+decide denied k = stopped denial
+decide (allowed p r) k = k p r
+
+abbrev pub consult : Policy → Command → State → Request → Outcome
+consult π c s (halt x) = stopped x
+consult π c s (ask l1 l2 l3 k) =
+    decide (π (record { opcode = opcode c; pc = s .pc .label; input1 = l1; input2 = l2; input3 = l3 })) k
+
+-- one command, at the place of the state
+unfoldable pub execute : Policy → ℕ → Command → State → Outcome
+execute π room c s = consult π c s (request room c s)

@@ -1,0 +1,32 @@
+-- Signed words: a number read back from its bits, and the sign.
+-- Assumes nothing.
+use mathlib.Core.Path.{_≡_, refl, sym, subst}
+use mathlib.Core.Bool.{Bool, true, false}
+use Prim.Native.Nat.{ℕ, _^_, _<_}
+use native.Mathlib.Omega.{arith}
+use lib.IntN.{ℤ, pos, negsuc, natAbs}
+use lib.Signed.{ltZ, nonNeg, mag}
+use lib.Dec.{T}
+use borrow.Author.Tests.{ltb-true}
+use mir.Syntax.{w64}
+use mir.Val.{SFits, Fits, toZ, ofZ}
+use mir.Facts.{toZ-ofZ}
+use Rattle.word.specs.declared.number.Natural.{Natural}
+use Rattle.word.specs.declared.number.Natural.the-variants.{Of, Negative}
+use Rattle.word.specs.Number.{naturalOf}
+
+-- a number that fits is read back from its bits
+pub back : {z : ℤ} → SFits w64 z → toZ w64 (ofZ w64 z) ≡ z
+back f = toZ-ofZ f
+
+pub negative : (z : ℤ) → ltZ z (pos 0) ≡ true → Negative ≡ naturalOf z
+negative (pos n) e = absurd (omega (arith, ltb-true n 0 e))
+negative (negsuc n) e = refl
+
+pub natural : (z : ℤ) → ltZ z (pos 0) ≡ false → Of (natAbs z) ≡ naturalOf z
+natural (pos n) e = refl
+natural (negsuc n) e = cc
+
+pub cast-natural : (z : ℤ) → SFits w64 z → ltZ z (pos 0) ≡ false → T (nonNeg z) × Fits w64 (natAbs z)
+cast-natural (pos n) f e = (tt, record { fits = let h = f .sfits in omega arith })
+cast-natural (negsuc n) f e = let z : _≡_ {A = ℕ} 0 1 = cc in absurd (omega arith)

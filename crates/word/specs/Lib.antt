@@ -1,0 +1,6 @@
+pub mod Lay
+pub mod Wrap
+pub mod Number
+pub mod Digits
+pub mod Field
+pub mod Text

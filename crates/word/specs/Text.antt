@@ -1,0 +1,60 @@
+-- Numbers as text: ASCII digits, the highest first.
+use Prim.Native.Nat.{ℕ, zero, suc, _+_, _/_}
+use mathlib.Core.Bool.{Bool, true, false}
+use mathlib.Core.List.{List, _∷_, map, reverse}
+use lib.IntN.{ℤ, pos, negsuc}
+use lib.ListN.{length}
+use lib.Dec.{ltb, leb}
+use Rattle.word.specs.Digits.{digitsOf}
+use Rattle.word.specs.Lay.{laidAt}
+use Rattle.word.specs.declared.text.Put.{Put}
+use Rattle.word.specs.declared.text.Put.the-variants.{Next, NoRoom}
+
+abbrev pub digitIf : Bool → ℕ → ℕ
+digitIf true d = 48 + d
+digitIf false d = 87 + d
+
+-- 0 to 9, then a to f
+unfoldable pub digitChar : ℕ → ℕ
+digitChar d = digitIf (ltb d 10) d
+
+-- n in base b with k digits
+unfoldable pub numeral : ℕ → ℕ → ℕ → List ℕ
+numeral b k n = reverse (map digitChar (digitsOf b k n))
+
+-- how many digits n has in base b, at least one and at most 1 + fuel
+unfoldable pub digitCount : ℕ → ℕ → ℕ → ℕ
+digitCount b zero n = 1
+digitCount b (suc fuel) n = more (ltb n b) (digitCount b fuel (n / b))
+  where
+    more : Bool → ℕ → ℕ
+    more true rest = 1
+    more false rest = suc rest
+
+-- a natural number below 10^20 in decimal, with no leading zero
+unfoldable pub natural : ℕ → List ℕ
+natural n = numeral 10 (digitCount 10 19 n) n
+
+-- a number in decimal, a minus sign before a negative one
+unfoldable pub decimal : ℤ → List ℕ
+decimal (pos n) = natural n
+decimal (negsuc n) = 45 ∷ natural (suc n)
+
+-- eight hexadecimal digits
+unfoldable pub hexadecimal : ℕ → List ℕ
+hexadecimal n = numeral 16 8 n
+
+abbrev pub roomFor : Bool → ℕ → Put
+roomFor true next = Next next
+roomFor false next = NoRoom
+
+abbrev pub laidIf : Bool → ℕ → List ℕ → List ℕ → List ℕ
+laidIf true at text old = laidAt at text old
+laidIf false at text old = old
+
+-- a text is written at a position if there is room, and else nothing is; the answer is the position after it
+unfoldable pub putAnswer : ℕ → List ℕ → List ℕ → Put
+putAnswer at text old = roomFor (leb (at + length text) (length old)) (at + length text)
+
+unfoldable pub putOut : ℕ → List ℕ → List ℕ → List ℕ
+putOut at text old = laidIf (leb (at + length text) (length old)) at text old

@@ -1,0 +1,5 @@
+// Fields of fixed width.
+pub enum Field {
+    Number(i64),
+    Cut,
+}

@@ -1,0 +1,6 @@
+// Words of 64 bits and what is read from them and written of them. Read in specs/: Wrap, Number, Digits, Field, Text.
+pub mod field;
+pub mod kind;
+pub mod number;
+pub mod text;
+pub mod wrap;

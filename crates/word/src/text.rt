@@ -1,0 +1,5 @@
+// Numbers as text.
+pub enum Put {
+    Next(usize),
+    NoRoom,
+}
