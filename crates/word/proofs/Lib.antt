@@ -1,3 +1,4 @@
 pub mod Signed
-pub mod Lay
 pub mod Bool
+pub mod Lay
+pub mod Laws

@@ -1,0 +1,5 @@
+-- The laws of the definitions of specs/, over the width, the base and the position. Assumes nothing.
+pub mod Test
+pub mod Digits
+pub mod Wrap
+pub mod Field
