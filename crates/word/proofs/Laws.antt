@@ -5,3 +5,4 @@ pub mod Modulo
 pub mod Wrap
 pub mod Word
 pub mod Field
+pub mod Text

@@ -22,14 +22,14 @@ digitChar d = digitIf (ltb d 10) d
 unfoldable pub numeral : ℕ → ℕ → ℕ → List ℕ
 numeral b k n = reverse (map digitChar (digitsOf b k n))
 
+abbrev pub countIf : Bool → ℕ → ℕ
+countIf true rest = 1
+countIf false rest = suc rest
+
 -- how many digits n has in base b, at least one and at most 1 + fuel
 unfoldable pub digitCount : ℕ → ℕ → ℕ → ℕ
 digitCount b zero n = 1
-digitCount b (suc fuel) n = more (ltb n b) (digitCount b fuel (n / b))
-  where
-    more : Bool → ℕ → ℕ
-    more true rest = 1
-    more false rest = suc rest
+digitCount b (suc fuel) n = countIf (ltb n b) (digitCount b fuel (n / b))
 
 -- a natural number below 10^20 in decimal, with no leading zero
 unfoldable pub natural : ℕ → List ℕ
