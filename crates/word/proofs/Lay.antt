@@ -31,8 +31,8 @@ module _ {A : Type 0} where
   laidAt-snoc at xs x old h =
       let j = at + length xs in
       let e : drop j (set old j x) ≡ x ∷ drop (suc j) old =
-          drop-cons (set old j x) j x (lt-length-set old j x h)
-          ∙ rw (getD-set-same old j x x h, drop-set-lt (suc j) old j x (omega arith)) in
+      drop-cons (set old j x) j x (lt-length-set old j x h)
+      ∙ rw (getD-set-same old j x x h, drop-set-lt (suc j) old j x (omega arith)) in
       let n : at + length (xs ++ (x ∷ [])) ≡ suc j = simp length-append (omega arith) in
       rw (e, n, take-set-le at old j x (omega arith)) (simp append-assoc)
 

@@ -73,7 +73,11 @@ fn digit(d: u64) -> u8
     requires { ⌜ d < 16 ⌝ }
     ensures { λ r. ⌜ r ≡ digitChar d ⌝ }
 {
-    if d < 10 { b'0' + d as u8 } else { b'a' - 10 + d as u8 }
+    if d < 10 {
+        b'0' + d as u8
+    } else {
+        b'a' - 10 + d as u8
+    }
 }
 
 // A number without its sign.

@@ -100,9 +100,12 @@ counted-more n count rest c h =
     let r = counted-room n count rest c h in
     let e : 21 - count ≡ suc (20 - count) = omega arith in
     let f : 21 - (count + 1) ≡ 20 - count = omega arith in
-    let g : 20 - count ≡ suc (20 - (count + 1)) = omega arith in
-    (omega arith, omega arith, rw f (digits-shift 10 (20 - count) rest (rw e at (c .2))),
-    omega (arith, digitCount-more 10 (20 - (count + 1)) rest h, ap (λ (j : ℕ). digitCount 10 j rest) g, c .3))
+    let g : 20 - count ≡ suc (20 - (count + 1)) = omega arith in (
+      omega arith,
+      omega arith,
+      rw f (digits-shift 10 (20 - count) rest (rw e at (c .2))),
+      omega (arith, digitCount-more 10 (20 - (count + 1)) rest h, ap (λ (j : ℕ). digitCount 10 j rest) g, c .3),
+    )
 
 pub counted-end : (n count rest : ℕ) → Counted n count rest → rest < 10 → count ≡ digitCount 10 19 n
 counted-end n count rest c h = omega (arith, digitCount-few 10 (20 - count) rest h)

@@ -16,7 +16,7 @@ add-result : tie.Need-add-result
 add-result c = rw (flip-back (c .before .args .n) (c .before .fits .n) (c .if1 .taken)) (search needs)
 
 cast-result-2 : tie.Need-cast-result-2
-cast-result-2 c = 
+cast-result-2 c =
     let f = c .before .fits .n in
     rw (back f) (cast-natural (c .before .args .n) f (rw (back f) at (c .if1 .left)))
 

@@ -44,17 +44,19 @@ loop-less : tie.Need-loop-less Inv-loop μ-loop
 loop-less c = omega arith
 
 loop-again : tie.Need-loop-again Inv-loop μ-loop
-loop-again c = 
+loop-again c =
     let a = c .before .before .before .before .args in
-    let l = c .before .before .loop in
-    (omega arith, length-set (l .out) (a .at + (l .i - 1)) (c .digit .result) ∙ l .inv .1,
-    numeral-stored (a .base) (l .i) (l .rest) (a .at) (l .out) (c .digit .result) (search needs) (search needs) (c .digit .ensures) ∙ l .inv .2)
+    let l = c .before .before .loop in (
+      omega arith,
+      length-set (l .out) (a .at + (l .i - 1)) (c .digit .result) ∙ l .inv .1,
+      numeral-stored (a .base) (l .i) (l .rest) (a .at) (l .out) (c .digit .result) (search needs) (search needs) (c .digit .ensures) ∙ l .inv .2,
+    )
 
 same-length : tie.Need-same-length Inv-loop μ-loop
 same-length c = omega arith
 
 returns : tie.Need-returns Inv-loop μ-loop
-returns c = 
+returns c =
     let a = c .before .before .before .args in
     let l = c .before .loop in
     numeral-written (a .base) (l .i) (l .rest) (a .at) (l .out) (search needs) ∙ l .inv .2
