@@ -76,8 +76,7 @@ module _ (left : ℕ) (s : List ℕ) (at : ℕ) (h : at < length s) where
         operand-is = operand-field o s (at + 1) z e;
         forward = omega arith;
         within = signedAt-whole (operandWidth o) s (at + 1) z e;
-        decoded = d ∙ ap (λ f. decodeOperand o at f rest) e ∙ ap (prepend (command o z)) (rest-next (operandWidth o));
-      }
+        decoded = d ∙ ap (λ f. decodeOperand o at f rest) e ∙ ap (prepend (command o z)) (rest-next (operandWidth o)) }
 
   fetches-opcode : (x : Option Opcode) → opcodeOf (getD s at 0) ≡ x → Fetches left s at (fetchOpcode x s (at + 1))
   fetches-opcode none e = step-opcode ∙ ap (λ x. decodeOpcode x at (drop (suc at) s) rest) e

@@ -1,52 +1,27 @@
--- Numbers as text: the digits of a numeral, how many a number has, and that the text is read back as the number.
+-- Numbers as text in lent memory: what the loops that write a numeral and count its digits keep, and what is written where.
 -- Assumes nothing.
 use mathlib.Core.Path.{_≡_, refl, sym, ap, _∙_}
 use mathlib.Core.Bool.{Bool, true, false}
-use mathlib.Core.List.{List, [], _∷_, _++_, map, reverse, reverse-cons}
-use Prim.Native.Nat.{ℕ, zero, suc, _+_, _*_, _-_, _/_, _%_, _^_, _<_, _≤_}
+use mathlib.Core.List.{List, _∷_}
+use Prim.Native.Nat.{ℕ, suc, _+_, _-_, _/_, _%_, _^_, _<_, _≤_}
 use native.Mathlib.Nat.{pow-le-pow-right}
 use native.Mathlib.Numerals.{add-one}
 use native.Mathlib.Omega.{arith}
 use lib.IntN.{ℤ, pos, negsuc, natAbs}
 use lib.Signed.{ltZ}
-use lib.ListN.{length, set, length-reverse, length-map, length-set}
+use lib.ListN.{length, set, length-set}
 use lib.Dec.{ltb}
-use borrow.Author.Tests.{lt-ltb, le-ltb, ltb-true, ltb-false, le-leb, lt-leb}
-use Rattle.word.specs.Digits.{digitsOf}
+use borrow.Author.Tests.{ltb-true, ltb-false, le-leb, lt-leb}
 use Rattle.word.specs.Lay.{laidAt}
-use Rattle.word.specs.Text.{digitIf, digitChar, numeral, countIf, digitCount, natural, decimal, putAnswer, putOut}
+use Rattle.word.specs.Text.{digitChar, numeral, digitCount, natural, decimal, putAnswer, putOut}
 use Rattle.word.specs.declared.text.Put.the-variants.{Next, NoRoom}
 use Rattle.word.proofs.Lay.{laidAt-nil, laidAt-cons, laidAt-snoc}
-use Rattle.word.proofs.Laws.Digits.{digits-length, digits-shift}
+use Rattle.word.proofs.Laws.Digits.{digits-shift}
+use Rattle.word.proofs.Laws.Numeral.{numeral-none, numeral-snoc, numeral-length, digitCount-few, digitCount-more}
 
 -- ════════════════════════════════════════════════════════════════════════════════════════════
--- Digits
+-- Writing a numeral from its lowest digit on
 -- ════════════════════════════════════════════════════════════════════════════════════════════
-
-pub digitChar-lower : (d : ℕ) → d < 10 → digitChar d ≡ 48 + d
-unfolding digitChar
-digitChar-lower d h = rw (lt-ltb d 10 h)
-
-pub digitChar-upper : (d : ℕ) → 10 ≤ d → digitChar d ≡ 87 + d
-unfolding digitChar
-digitChar-upper d h = rw (le-ltb d 10 h)
-
--- ════════════════════════════════════════════════════════════════════════════════════════════
--- Numerals
--- ════════════════════════════════════════════════════════════════════════════════════════════
-
-pub numeral-none : (b n : ℕ) → numeral b 0 n ≡ []
-unfolding numeral digitsOf
-numeral-none b n = refl
-
--- the lowest digit is the last
-pub numeral-snoc : (b k n : ℕ) → numeral b (suc k) n ≡ numeral b k (n / b) ++ (digitChar (n % b) ∷ [])
-unfolding numeral digitsOf
-numeral-snoc b k n = reverse-cons (digitChar (n % b)) (map digitChar (digitsOf b k (n / b)))
-
-pub numeral-length : (b k n : ℕ) → length (numeral b k n) ≡ k
-unfolding numeral
-numeral-length b k n = length-reverse (map digitChar (digitsOf b k n)) ∙ length-map (digitsOf b k n) digitChar ∙ digits-length b k n
 
 -- nothing is left to write of a numeral at its start
 pub numeral-written : (b i n at : ℕ) (old : List ℕ) → i ≤ 0 → old ≡ laidAt at (numeral b i n) old
@@ -67,17 +42,8 @@ numeral-stored b i n at old x p h e =
     rw e (numeral-store b (i - 1) n at old (omega arith) ∙ ap (λ (j : ℕ). laidAt at (numeral b j n) old) f)
 
 -- ════════════════════════════════════════════════════════════════════════════════════════════
--- How many digits
+-- Counting digits by division
 -- ════════════════════════════════════════════════════════════════════════════════════════════
-
-pub digitCount-few : (b fuel n : ℕ) → n < b → digitCount b fuel n ≡ 1
-unfolding digitCount
-digitCount-few b zero n h = refl
-digitCount-few b (suc fuel) n h = rw (lt-ltb n b h)
-
-pub digitCount-more : (b fuel n : ℕ) → b ≤ n → digitCount b (suc fuel) n ≡ suc (digitCount b fuel (n / b))
-unfolding digitCount
-digitCount-more b fuel n h = rw (le-ltb n b h)
 
 -- counting by division: so many digits are counted of n, and the rest has the others
 abbrev pub Counted : ℕ → ℕ → ℕ → Type 0
@@ -109,15 +75,6 @@ counted-more n count rest c h =
 
 pub counted-end : (n count rest : ℕ) → Counted n count rest → rest < 10 → count ≡ digitCount 10 19 n
 counted-end n count rest c h = omega (arith, digitCount-few 10 (20 - count) rest h)
-
-pub digitCount-le : (b fuel n : ℕ) → digitCount b fuel n ≤ suc fuel
-unfolding digitCount
-digitCount-le b zero n = omega arith
-digitCount-le b (suc fuel) n = by (ltb n b) (digitCount-le b fuel (n / b))
-  where
-    by : (t : Bool) → digitCount b fuel (n / b) ≤ suc fuel → countIf t (digitCount b fuel (n / b)) ≤ suc (suc fuel)
-    by true h = omega arith
-    by false h = omega arith
 
 -- ════════════════════════════════════════════════════════════════════════════════════════════
 -- Decimals

@@ -9,7 +9,8 @@ use borrow.Author.Needs.{needs}
 use borrow.Author.Tests.{leb-true, leb-false}
 use Rattle.word.specs.Text.{numeral}
 use Rattle.word.proofs.Signed.{back}
-use Rattle.word.proofs.Laws.Text.{numeral-length, digitCount-le, decimal-negative, decimal-natural, put-none, put-cons}
+use Rattle.word.proofs.Laws.Numeral.{numeral-length, digitCount-le}
+use Rattle.word.proofs.Laws.Text.{decimal-negative, decimal-natural, put-none, put-cons}
 use Rattle.word.proofs.text.put_decimal.Statement.{statement}
 use Rattle.word.proofs.text.put_decimal.Tie as tie
 

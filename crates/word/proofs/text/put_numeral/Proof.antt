@@ -7,7 +7,8 @@ use lib.ListN.{length}
 use borrow.Author.Needs.{needs}
 use borrow.Author.Tests.{leb-true, leb-false}
 use Rattle.word.specs.Text.{numeral}
-use Rattle.word.proofs.Laws.Text.{numeral-length, put-room, put-none}
+use Rattle.word.proofs.Laws.Numeral.{numeral-length}
+use Rattle.word.proofs.Laws.Text.{put-room, put-none}
 use Rattle.word.proofs.text.put_numeral.Statement.{statement}
 use Rattle.word.proofs.text.put_numeral.Tie as tie
 
