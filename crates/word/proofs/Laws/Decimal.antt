@@ -1,15 +1,17 @@
--- The texts of words and labels: read back they give the number, so that two numbers have two texts; no leading zero; how long they are.
+-- The texts of words and labels: read back they give the number, so that two numbers have two texts; they have no leading
+-- zero; how long they are.
 -- Assumes nothing.
-use mathlib.Core.Path.{_≡_, refl, sym, ap, _∙_}
-use mathlib.Core.List.{List, [], _∷_}
-use Prim.Native.Nat.{ℕ, zero, suc, _+_, _-_, _/_, _%_, _^_, _<_, _≤_}
+use mathlib.Core.Path.{_≡_, sym, ap, _∙_}
+use mathlib.Core.List.{List}
+use Prim.Native.Nat.{ℕ, suc, _-_, _/_, _%_, _^_, _<_, _≤_}
 use native.Mathlib.Nat.{one-le-pow, pow-succ', mod-eq-of-lt, div-lt-iff-lt-mul, le-div-iff-mul-le}
 use native.Mathlib.Omega.{arith}
 use lib.IntN.{ℤ, pos, negsuc}
 use lib.ListN.{length, getD, drop}
 use Rattle.word.specs.Wrap.{Signed}
-use Rattle.word.specs.Text.{digitChar, digitValue, numeral, numeralValue, digitCount, natural, decimal, hexadecimal}
-use Rattle.word.proofs.Laws.Numeral.{numeral-length, numeral-value, numeral-cons, digitChar-value, digitChar-ge, digitCount-suffices, digitCount-within, digitCount-least, digitCount-pos}
+use Rattle.word.specs.Text.{digitChar, digitValue, numeralValue, digitCount, natural, decimal, hexadecimal}
+use Rattle.word.proofs.Laws.Numeral.{digitChar-value, digitChar-ge, numeral-length, numeral-value, numeral-cons}
+use Rattle.word.proofs.Laws.Numeral.{digitCount-pos, digitCount-suffices, digitCount-within, digitCount-least}
 
 -- ════════════════════════════════════════════════════════════════════════════════════════════
 -- Natural numbers

@@ -1,15 +1,17 @@
--- Numerals over any base: a number below b^k is read back from its k digits, and a number has as many digits as it needs and no more.
+-- Numerals over any base b: a number below b^k is read back from its k digits; a number has as many digits as it needs, and
+-- no more.
 -- Assumes nothing.
-use mathlib.Core.Path.{_≡_, refl, sym, ap, ap₂, subst, _∙_}
+use mathlib.Core.Path.{_≡_, refl, sym, ap, ap₂, _∙_}
 use mathlib.Core.Bool.{Bool, true, false}
-use mathlib.Core.List.{List, [], _∷_, _++_, map, reverse, reverse-cons, reverse-reverse}
-use Prim.Native.Nat.{ℕ, zero, suc, _+_, _*_, _-_, _/_, _%_, _^_, _<_, _≤_}
-use native.Mathlib.Nat.{pow-zero, pow-suc, pow-succ', mul-comm, div-one, div-div-eq-div-mul, div-lt-iff-lt-mul, le-div-iff-mul-le}
+use mathlib.Core.List.{List, [], _∷_, _++_, map, reverse-cons, reverse-reverse}
+use Prim.Native.Nat.{ℕ, zero, suc, _+_, _/_, _%_, _^_, _<_, _≤_}
+use native.Mathlib.Nat.{pow-zero, pow-suc, pow-succ', div-one, div-div-eq-div-mul}
+use native.Mathlib.Nat.{div-lt-iff-lt-mul, le-div-iff-mul-le}
 use native.Mathlib.Omega.{arith}
 use lib.ListN.{length, length-reverse, length-map}
 use lib.Dec.{ltb}
 use borrow.Author.Tests.{lt-ltb, le-ltb, ltb-true, ltb-false}
-use Rattle.word.specs.Digits.{digitsOf, valueOf}
+use Rattle.word.specs.Digits.{digitsOf}
 use Rattle.word.specs.Text.{digitIf, digitChar, valueIf, digitValue, numeral, numeralValue, countIf, digitCount}
 use Rattle.word.proofs.Laws.Digits.{digits-length, digits-shift, digits-value}
 

@@ -1,4 +1,4 @@
--- Numbers as text in lent memory: what the loops that write a numeral and count its digits keep, and what is written where.
+-- Numbers as text in lent memory: what the loops that write a numeral and count its digits keep, and what is written.
 -- Assumes nothing.
 use mathlib.Core.Path.{_≡_, refl, sym, ap, _∙_}
 use mathlib.Core.Bool.{Bool, true, false}
@@ -47,7 +47,9 @@ numeral-stored b i n at old x p h e =
 
 -- counting by division: so many digits are counted of n, and the rest has the others
 abbrev pub Counted : ℕ → ℕ → ℕ → Type 0
-Counted n count rest = (0 < count) × (count ≤ 20) × (rest < 10 ^ (21 - count)) × (digitCount 10 (20 - count) rest + count ≡ digitCount 10 19 n + 1)
+Counted n count rest =
+    (0 < count) × (count ≤ 20) × (rest < 10 ^ (21 - count))
+    × (digitCount 10 (20 - count) rest + count ≡ digitCount 10 19 n + 1)
 
 pub counted-start : (n : ℕ) → n < 2 ^ 64 → Counted n 1 n
 counted-start n h = (omega arith, omega arith, omega arith, refl)
@@ -118,7 +120,8 @@ put-none at k text old e h = rw (e, lt-leb (at + k) (length old) h) (refl, refl)
 
 -- a text whose first character is stored is written from the next position on
 pub put-cons : (at k x : ℕ) (text old : List ℕ) → length text ≡ k → at + (k + 1) ≤ length old
-    → (putAnswer (at + 1) text (set old at x) ≡ putAnswer at (x ∷ text) old) × (putOut (at + 1) text (set old at x) ≡ putOut at (x ∷ text) old)
+    → (putAnswer (at + 1) text (set old at x) ≡ putAnswer at (x ∷ text) old)
+    × (putOut (at + 1) text (set old at x) ≡ putOut at (x ∷ text) old)
 put-cons at k x text old e h =
     let f : at + 1 + k ≡ at + (k + 1) = omega arith in
     let new = put-room (at + 1) k text (set old at x) e (rw (length-set old at x) (omega arith)) in

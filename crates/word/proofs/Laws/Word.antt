@@ -5,7 +5,7 @@ use mathlib.Core.Bool.{Bool, true, false}
 use Prim.Native.Nat.{ℕ, zero, suc, _+_, _*_, _-_, _%_, _^_, _<_, _≤_}
 use native.Mathlib.Nat.{mod-eq-of-lt}
 use native.Mathlib.Omega.{arith}
-use lib.IntN.{ℤ, pos, negsuc, _+ℤ_, _-ℤ_, natAbs}
+use lib.IntN.{ℤ, pos, negsuc, _-ℤ_, natAbs}
 use lib.Signed.{mag, ltZ}
 use lib.Pow.{pow-lt, pow-mono}
 use lib.Dec.{ltb}
@@ -13,8 +13,8 @@ use mir.Syntax.{w64}
 use mir.Val.{SFits, toZ, ofZ, sel}
 use mir.Facts.{toZ-pos, toZ-ofZ}
 use borrow.Author.Tests.{ltb-true, le-ltb}
-use Rattle.word.specs.Wrap.{Signed, residue, half, signed, wrap, addWrap, subWrap}
-use Rattle.word.proofs.Laws.Wrap.{pow-half, signed-lower, signed-upper, residue-add, residue-sub}
+use Rattle.word.specs.Wrap.{Signed, residue, half, signed}
+use Rattle.word.proofs.Laws.Wrap.{pow-half, signed-lower, signed-upper}
 
 -- ════════════════════════════════════════════════════════════════════════════════════════════
 -- The kit's reading of 64 bits is that of Wrap

@@ -1,8 +1,8 @@
 -- `word::text::digit` meets its contract.
 -- Assumes nothing.
 use mathlib.Core.Path.{sym}
-use Rattle.word.proofs.Laws.Numeral.{digitChar-lower, digitChar-upper}
 use borrow.Author.Needs.{needs}
+use Rattle.word.proofs.Laws.Numeral.{digitChar-lower, digitChar-upper}
 use Rattle.word.proofs.text.digit.Statement.{statement}
 use Rattle.word.proofs.text.digit.Tie as tie
 

@@ -1,5 +1,5 @@
--- `word::text::digit_count` meets its contract. The loop's invariant: what is counted, and the rest's digits, are those of the number.
--- The measure is the rest. Assumes nothing.
+-- `word::text::digit_count` meets its contract. The loop's invariant: the digits that are counted and those of the rest are
+-- the number's. The measure is the rest. Assumes nothing.
 use native.Mathlib.Omega.{arith}
 use borrow.Author.Needs.{needs}
 use Rattle.word.proofs.Laws.Text.{Counted, counted-start, counted-more, counted-end}
@@ -22,10 +22,14 @@ loop-less : tie.Need-loop-less Inv-loop μ-loop
 loop-less c = omega arith
 
 loop-again : tie.Need-loop-again Inv-loop μ-loop
-loop-again c = counted-more (c .before .before .args .n) (c .before .loop .count) (c .before .loop .rest) (c .before .loop .inv) (search needs)
+loop-again c =
+    let l = c .before .loop in
+    counted-more (c .before .before .args .n) (l .count) (l .rest) (l .inv) (search needs)
 
 returns : tie.Need-returns Inv-loop μ-loop
-returns c = counted-end (c .before .before .args .n) (c .before .loop .count) (c .before .loop .rest) (c .before .loop .inv) (search needs)
+returns c =
+    let l = c .before .loop in
+    counted-end (c .before .before .args .n) (l .count) (l .rest) (l .inv) (search needs)
 
 pub digit-count-spec : {M : Type 1} → statement M
 digit-count-spec =

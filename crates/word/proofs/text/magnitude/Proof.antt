@@ -21,7 +21,10 @@ cast-result-2 c =
     rw (back f) (cast-natural (c .before .args .n) f (rw (back f) at (c .if1 .left)))
 
 returns : tie.Need-returns
-returns c = rw (flip-back (c .before .args .n) (c .before .fits .n) (c .if1 .taken)) (flip-abs (c .before .args .n) (c .before .fits .n) (c .if1 .taken))
+returns c =
+    let a = c .before .args .n in
+    let f = c .before .fits .n in
+    rw (flip-back a f (c .if1 .taken)) (flip-abs a f (c .if1 .taken))
 
 returns-2 : tie.Need-returns-2
 returns-2 c = search needs

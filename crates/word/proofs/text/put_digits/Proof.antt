@@ -1,7 +1,7 @@
--- `word::text::put_digits` meets its contract. The loop's invariant: what is left to write, on what is written, is the whole numeral on
--- what was there. The measure is how many digits are left. Assumes nothing.
+-- `word::text::put_digits` meets its contract. The loop's invariant: what is left to write, laid on what is written, is the
+-- whole numeral laid on what was there. The measure is how many digits are left. Assumes nothing.
 use mathlib.Core.Path.{_≡_, refl, _∙_}
-use Prim.Native.Nat.{_+_, _-_, _≤_}
+use Prim.Native.Nat.{_≤_}
 use native.Mathlib.Nat.{mod-lt}
 use native.Mathlib.Omega.{arith}
 use lib.ListN.{length, length-set}
@@ -14,7 +14,8 @@ use Rattle.word.proofs.text.put_digits.Tie as tie
 
 abbrev Inv-loop : tie.InvT-loop
 Inv-loop n base count out₀ at rest₀ i₀ out rest i =
-    (i ≤ count) × (length out ≡ length out₀) × (laidAt at (numeral base i rest) out ≡ laidAt at (numeral base count n) out₀)
+    (i ≤ count) × (length out ≡ length out₀)
+    × (laidAt at (numeral base i rest) out ≡ laidAt at (numeral base count n) out₀)
 
 abbrev μ-loop : tie.MeasureT-loop
 μ-loop n base count out₀ at rest₀ i₀ out rest i = i
@@ -29,7 +30,9 @@ rem-digit : tie.Need-rem-digit Inv-loop μ-loop
 rem-digit c = omega arith
 
 digit-requires : tie.Need-digit-requires Inv-loop μ-loop
-digit-requires c κs = omega (arith, mod-lt (c .before .loop .rest) {m = c .before .before .before .args .base} (search needs))
+digit-requires c κs =
+    let base = c .before .before .before .args .base in
+    omega (arith, mod-lt (c .before .loop .rest) {m = base} (search needs))
 
 add-out : tie.Need-add-out Inv-loop μ-loop
 add-out c = omega arith
@@ -46,11 +49,11 @@ loop-less c = omega arith
 loop-again : tie.Need-loop-again Inv-loop μ-loop
 loop-again c =
     let a = c .before .before .before .before .args in
-    let l = c .before .before .loop in (
-      omega arith,
-      length-set (l .out) (a .at + (l .i - 1)) (c .digit .result) ∙ l .inv .1,
-      numeral-stored (a .base) (l .i) (l .rest) (a .at) (l .out) (c .digit .result) (search needs) (search needs) (c .digit .ensures) ∙ l .inv .2,
-    )
+    let l = c .before .before .loop in
+    let stored =
+    numeral-stored (a .base) (l .i) (l .rest) (a .at) (l .out) (c .digit .result)
+    (search needs) (search needs) (c .digit .ensures) in
+    (omega arith, simp length-set (l .inv .1), stored ∙ l .inv .2)
 
 same-length : tie.Need-same-length Inv-loop μ-loop
 same-length c = omega arith
