@@ -1,19 +1,17 @@
--- Two's complement over the width k, and sums that wrap.
+-- Two's complement over the width k: a signed number of k bits and its remainder modulo 2^k give each other, and the remainder of a
+-- sum is that of the sum of the remainders.
 -- Assumes nothing.
 use mathlib.Core.Path.{_≡_, refl, sym, ap, ap₂, subst, _∙_}
-use mathlib.Core.Bool.{Bool, true, false}
+use mathlib.Core.Bool.{Bool, true, false, cond}
 use Prim.Native.Nat.{ℕ, zero, suc, _+_, _*_, _-_, _/_, _%_, _^_, _<_, _≤_}
-use native.Mathlib.Nat.{mod-lt, mod-eq-of-lt, pow-suc}
+use native.Mathlib.Nat.{mod-lt, mod-mod, mod-eq-of-lt, mul-mod-left, suc-mul, div-add-mod', pow-suc, add-zero, zero-mod}
 use native.Mathlib.Omega.{arith}
-use lib.IntN.{ℤ, pos, negsuc, _+ℤ_, _-ℤ_}
-use lib.Signed.{mag}
-use lib.Pow.{pow-pos, pow-lt, pow-mono}
+use lib.IntN.{ℤ, pos, negsuc, _+ℤ_, _-ℤ_, -ℤ-+ℤ-cancel}
+use lib.Pow.{pow-pos}
 use lib.Dec.{ltb}
-use mir.Syntax.{w64}
-use mir.Val.{SFits, toZ, ofZ}
-use mir.Facts.{toZ-pos, toZ-ofZ}
 use borrow.Author.Tests.{lt-ltb, le-ltb, ltb-true, ltb-false}
 use Rattle.word.specs.Wrap.{Signed, residue, half, signed, wrap, addWrap, subWrap}
+use Rattle.word.proofs.Laws.Modulo.{mod-add, mod-cancel}
 
 -- ════════════════════════════════════════════════════════════════════════════════════════════
 -- The two halves of the numbers of k bits
@@ -68,40 +66,81 @@ signed-range k r p h = by (ltb r (2 ^ (k - 1))) refl
     by false e = omega (arith, ltb-false r (2 ^ (k - 1)) e, pow-half k p)
 
 -- ════════════════════════════════════════════════════════════════════════════════════════════
--- The bits of a word, as the code forms them
+-- Sums and differences modulo 2^k
 -- ════════════════════════════════════════════════════════════════════════════════════════════
 
--- one bit shifted to the top of k bits
-abbrev pub top : ℕ → ℕ
-top k = (1 * 2 ^ (k - 1)) % 2 ^ 64
+-- a whole number z is `up z` − `down z`
+abbrev up : ℤ → ℕ
+up (pos n) = n
+up (negsuc n) = 0
 
-pub top-half : (k : ℕ) → 0 < k → k ≤ 64 → top k ≡ 2 ^ (k - 1)
-top-half k p h =
-    let e : 1 * 2 ^ (k - 1) ≡ 2 ^ (k - 1) = omega arith in
-    rw e (mod-eq-of-lt (pow-lt {i = k - 1} {j = 64} (omega arith)))
+abbrev down : ℤ → ℕ
+down (pos n) = 0
+down (negsuc n) = suc n
 
-pub top-word : (k : ℕ) → 0 < k → k ≤ 64 → top k ≤ 2 ^ 63
-top-word k p h = rw (top-half k p h) (pow-mono {i = k - 1} {j = 63} (omega arith))
+residue-parts : (k : ℕ) (z : ℤ) → (residue k z + down z) % 2 ^ k ≡ up z % 2 ^ k
+unfolding residue
+residue-parts k (pos n) = rw (add-zero (n % 2 ^ k)) (mod-mod n (2 ^ k))
+residue-parts k (negsuc n) =
+    let e : 2 ^ k - suc (n % 2 ^ k) + suc n ≡ suc (n / 2 ^ k) * 2 ^ k =
+    omega (arith, suc-mul (n / 2 ^ k) (2 ^ k), div-add-mod' n (2 ^ k), mod-lt n (pow-pos k)) in
+    rw e (mul-mod-left (suc (n / 2 ^ k)) (2 ^ k) ∙ sym (zero-mod (2 ^ k)))
 
-minus-one : (m : ℕ) → negsuc 0 -ℤ pos m ≡ negsuc m
-minus-one zero = refl
-minus-one (suc m) = ap negsuc (omega arith)
+sub-parts : (a b : ℕ) (t : Bool) → ltb a b ≡ t → up (cond t (negsuc (b - suc a)) (pos (a - b))) + b ≡ a + down (cond t (negsuc (b - suc a)) (pos (a - b)))
+sub-parts a b true e = omega (arith, ltb-true a b e)
+sub-parts a b false e = omega (arith, ltb-false a b e)
 
--- the number of k bits b, from a word in each half
-module _ (k b : ℕ) (p : 0 < k) (h : k ≤ 64) where
-  pub lower-signed : b < top k → toZ w64 b ≡ signed k b
-  lower-signed l =
-      toZ-pos w64 (omega (arith, top-word k p h)) ∙ sym (signed-lower k b (rw (top-half k p h) at l))
+sum-parts : (a b : ℤ) → up (a +ℤ b) + (down a + down b) ≡ up a + up b + down (a +ℤ b)
+sum-parts (pos a) (pos b) = omega arith
+sum-parts (pos a) (negsuc b) = omega (arith, sub-parts a (suc b) (ltb a (suc b)) refl)
+sum-parts (negsuc a) (pos b) = omega (arith, sub-parts b (suc a) (ltb b (suc a)) refl)
+sum-parts (negsuc a) (negsuc b) = omega arith
 
-  module _ (l : b < 2 ^ k) (u : top k ≤ b) where
-    upper : ((top k - 1) - (b - top k) ≡ 2 ^ k - suc b) × (2 ^ k - suc b < 2 ^ 63)
-    upper = let e = pow-half k p in let f = top-half k p h in let g = top-word k p h in (omega arith, omega arith)
+pub residue-add : (k : ℕ) (a b : ℤ) → residue k (a +ℤ b) ≡ (residue k a + residue k b) % 2 ^ k
+residue-add k a b =
+    let m = 2 ^ k in
+    let r = residue k (a +ℤ b) in
+    let d = down (a +ℤ b) in
+    let e = down a + down b in
+    let left : r + (d + e) ≡ (r + d) + e = omega arith in
+    let right : residue k a + residue k b + (d + e) ≡ ((residue k a + down a) + (residue k b + down b)) + d = omega arith in
+    let sum = mod-add m (residue k a + down a) (up a) (residue k b + down b) (up b) (residue-parts k a) (residue-parts k b) in
+    sym (mod-eq-of-lt (residue-lt k (a +ℤ b)))
+    ∙ mod-cancel m r (residue k a + residue k b) (d + e) (pow-pos k)
+    (rw (left, right)
+    (mod-add m (r + d) (up (a +ℤ b)) e e (residue-parts k (a +ℤ b)) refl
+    ∙ ap (λ (n : ℕ). n % m) (sum-parts a b)
+    ∙ sym (mod-add m (residue k a + down a + (residue k b + down b)) (up a + up b) d d sum refl)))
 
-    upper-negative : negsuc 0 -ℤ toZ w64 ((top k - 1) - (b - top k)) ≡ negsuc (2 ^ k - suc b)
-    upper-negative = rw (upper .0, toZ-pos w64 (upper .1)) (minus-one (2 ^ k - suc b))
+-- what gives back a's remainder when b's is added is the remainder of a − b
+pub residue-sub : (k r : ℕ) (a b : ℤ) → r < 2 ^ k → (r + residue k b) % 2 ^ k ≡ residue k a → r ≡ residue k (a -ℤ b)
+residue-sub k r a b h e =
+    sym (mod-eq-of-lt h)
+    ∙ mod-cancel (2 ^ k) r (residue k (a -ℤ b)) (residue k b) (pow-pos k)
+    (e ∙ ap (residue k) (sym (-ℤ-+ℤ-cancel a b)) ∙ residue-add k (a -ℤ b) b)
+    ∙ mod-eq-of-lt (residue-lt k (a -ℤ b))
 
-    pub upper-fits : SFits w64 (negsuc 0 -ℤ toZ w64 ((top k - 1) - (b - top k)))
-    upper-fits = rw upper-negative (record { sfits = upper .1 })
+-- ════════════════════════════════════════════════════════════════════════════════════════════
+-- Wrapping is the signed number of 64 bits that is equal modulo 2^64
+-- ════════════════════════════════════════════════════════════════════════════════════════════
 
-    pub upper-signed : toZ w64 (ofZ w64 (negsuc 0 -ℤ toZ w64 ((top k - 1) - (b - top k)))) ≡ signed k b
-    upper-signed = toZ-ofZ upper-fits ∙ upper-negative ∙ sym (signed-upper k b (rw (top-half k p h) at u))
+pub wrap-signed : (z : ℤ) → Signed 64 (wrap z)
+unfolding wrap
+wrap-signed z = signed-range 64 (residue 64 z) (omega arith) (residue-lt 64 z)
+
+pub wrap-residue : (z : ℤ) → residue 64 (wrap z) ≡ residue 64 z
+unfolding wrap
+wrap-residue z = residue-signed 64 (residue 64 z) (omega arith) (residue-lt 64 z)
+
+pub wrap-id : (z : ℤ) → Signed 64 z → wrap z ≡ z
+unfolding wrap
+wrap-id z h = signed-residue 64 (omega arith) z h
+
+-- the sum and the difference, from the remainders
+pub addWrap-signed : (a b : ℤ) → signed 64 ((residue 64 a + residue 64 b) % 2 ^ 64) ≡ addWrap a b
+unfolding addWrap wrap
+addWrap-signed a b = ap (signed 64) (sym (residue-add 64 a b))
+
+pub subWrap-signed : (a b : ℤ) (r : ℕ) → r < 2 ^ 64 → (r + residue 64 b) % 2 ^ 64 ≡ residue 64 a → signed 64 r ≡ subWrap a b
+unfolding subWrap wrap
+subWrap-signed a b r h e = ap (signed 64) (residue-sub 64 r a b h e)

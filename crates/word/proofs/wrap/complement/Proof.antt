@@ -2,7 +2,8 @@
 -- Assumes nothing.
 use borrow.Author.Needs.{needs}
 use native.Mathlib.Omega.{arith}
-use Rattle.word.proofs.Laws.Wrap.{pow-half, top-half, top-word, lower-signed, upper-fits, upper-signed}
+use Rattle.word.proofs.Laws.Wrap.{pow-half}
+use Rattle.word.proofs.Laws.Word.{top-half, top-word, lower-signed, upper-fits, upper-signed}
 use Rattle.word.proofs.wrap.complement.Statement.{statement}
 use Rattle.word.proofs.wrap.complement.Tie as tie
 
