@@ -3,4 +3,5 @@ pub mod Rule
 pub mod State
 pub mod Step
 pub mod Run
+pub mod Reading
 pub mod Claim
