@@ -20,9 +20,10 @@ use Rattle.program.specs.declared.Command.{Command}
 use Rattle.machine.specs.Atom.{Atom}
 use Rattle.machine.specs.Rule.{Policy, standard}
 use Rattle.machine.specs.State.{State, start}
+use Rattle.machine.specs.Step.{stepped}
 use Rattle.machine.specs.Run.{executeElement, executeAt, step, run}
 use Rattle.machine.specs.Claim.{Alike, none, same, hidden, Refines, Private, Claim}
-use Rattle.machine.proofs.Step.{Gives, gives-map, run-keeps, execute-refines}
+use Rattle.machine.proofs.Step.{Gives, gives-map, gives-stepped, run-keeps, execute-refines}
 use Rattle.machine.proofs.Privacy.Seen.{see, see-outside}
 use Rattle.machine.proofs.Privacy.Erasure.{View, erase, trim, actElement, actAt, move, moves}
 use Rattle.machine.proofs.Privacy.Act.{act-shows}
@@ -72,7 +73,10 @@ module _ (π : Policy) (refines : Refines π) (room : ℕ) (cs : List Command) (
       go t (inr f) = (suc n, f ∙ ap (move cs) e ∙ sym (moves-suc cs n v))
 
   run-reaches : (fuel : ℕ) (s : State) → Reached (seen s) (run π room cs fuel s .state)
-  run-reaches fuel s = run-keeps π room cs (Reached (seen s)) (step-reaches (seen s)) fuel s (0, refl)
+  run-reaches fuel s =
+      let reaches : (u t : State) → step π room cs u ≡ stepped t → Reached (seen s) u → Reached (seen s) t =
+      λ u t e h. gives-stepped (Reached (seen s)) e (step-reaches (seen s) u h) in
+      run-keeps π room cs (Reached (seen s)) reaches fuel s (0, refl)
 
 pub privacy : Claim
 privacy π refines cs S cells₁ cells₂ alike room₁ room₂ fuel₁ fuel₂ =

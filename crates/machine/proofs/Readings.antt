@@ -1,4 +1,4 @@
--- Document 01's readings R1 to R10 (specs/Reading.antt), computed on the definitions: each run comes to what the reading says.
+-- Document 01's readings R1 to R10 (specs/Reading.antt), computed: each run comes to what the reading says.
 -- Assumes nothing.
 use mathlib.Core.Path.{_≡_, refl}
 use mathlib.Core.List.{map}

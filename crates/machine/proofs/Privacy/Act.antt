@@ -2,24 +2,25 @@
 -- Assumes nothing.
 use mathlib.Core.Path.{_≡_, refl}
 use mathlib.Core.Bool.{Bool, true, false}
-use mathlib.Core.List.{List, [], _∷_, map}
-use Prim.Native.Nat.{ℕ, zero, suc}
-use lib.IntN.{ℤ, pos, negsuc}
+use mathlib.Core.List.{List, map}
+use Prim.Native.Nat.{ℕ}
+use lib.IntN.{ℤ, pos}
 use lib.ListN.{length}
 use lib.Dec.{ltb}
 use Rattle.word.specs.Wrap.{addWrap, subWrap}
 use Rattle.label.specs.Label.{join, flows}
 use Rattle.program.specs.declared.Command.{Command}
 use Rattle.program.specs.declared.Command.the-variants.{Add, Sub, Pop, Output, Push, Load, Store, Jump, Bnz, Call, Ret}
-use Rattle.machine.specs.Atom.{Atom, Entry, value, frame}
+use Rattle.machine.specs.Atom.{Atom, Entry}
 use Rattle.machine.specs.Rule.{allowedIf, standard}
 use Rattle.machine.specs.State.{State, Stop, outputFull, stackFull}
 use Rattle.machine.specs.Step.{Outcome, stepped, stackLimit, provided, Request, withValue, withValues, withFrame}
-use Rattle.machine.specs.Step.{withElement, withCell, decide, consult, request, execute, atom, branch, storing}
+use Rattle.machine.specs.Step.{withCell, decide, consult, request, execute, atom, branch, storing}
+use Rattle.machine.proofs.Request.{At, value-all, values-all, frame-all, cell-all, provided-all}
 use Rattle.machine.proofs.Step.{Gives}
 use Rattle.machine.proofs.Privacy.Seen.{Seen, see, joined, see-one, see-both, see-bottom}
 use Rattle.machine.proofs.Privacy.Erasure.{View, Slot, slot, erase, pull, pulls, unwind, first, second, increment, act}
-use Rattle.machine.proofs.Privacy.Effect.{At, here, there, see-cell, see-stored, view-append, see-line}
+use Rattle.machine.proofs.Privacy.Effect.{see-cell, see-stored, view-append, see-line}
 
 -- ════════════════════════════════════════════════════════════════════════════════════════════
 -- What a command needs, and what is seen of it
@@ -27,44 +28,31 @@ use Rattle.machine.proofs.Privacy.Effect.{At, here, there, see-cell, se
 
 module _ (S : ℕ) (c : Command) (s : State) where
   -- what a request comes to is seen so
-  abbrev Shows : Request → View → Type 0
-  Shows q w = Gives (λ t. erase S t ≡ w) (consult standard c s q)
+  abbrev Shows : View → Request → Type 0
+  Shows w q = Gives (λ t. erase S t ≡ w) (consult standard c s q)
 
   value-shows : (v : View) (es : List Entry) (k : Atom → List Entry → Request) (l : Seen → List Slot → View)
-      → ((a : Atom) (rest : List Entry) → Shows (k a rest) (l (see S a) (map (slot S) rest)))
-      → Shows (withValue es k) (pull v (map (slot S) es) l)
-  value-shows v [] k l h = tt
-  value-shows v (value a ∷ rest) k l h = h a rest
-  value-shows v (frame a ∷ rest) k l h = tt
+      → ((a : Atom) (rest : List Entry) → Shows (l (see S a) (map (slot S) rest)) (k a rest))
+      → Shows (pull v (map (slot S) es) l) (withValue es k)
+  value-shows v es k l h = value-all (Shows (pull v (map (slot S) es) l)) es k tt (λ a rest e. rw e (h a rest))
 
   values-shows : (v : View) (es : List Entry) (k : Atom → Atom → List Entry → Request) (l : Seen → Seen → List Slot → View)
-      → ((a b : Atom) (rest : List Entry) → Shows (k a b rest) (l (see S a) (see S b) (map (slot S) rest)))
-      → Shows (withValues es k) (pulls v (map (slot S) es) l)
-  values-shows v es k l h = value-shows v es _ _ (λ a below. value-shows v below _ _ (λ b rest. h a b rest))
+      → ((a b : Atom) (rest : List Entry) → Shows (l (see S a) (see S b) (map (slot S) rest)) (k a b rest))
+      → Shows (pulls v (map (slot S) es) l) (withValues es k)
+  values-shows v es k l h = values-all (Shows (pulls v (map (slot S) es) l)) es k tt (λ a b rest e. rw e (h a b rest))
 
   frame-shows : (v : View) (es : List Entry) (k : Atom → List Entry → Request) (l : Seen → List Slot → View)
-      → ((a : Atom) (rest : List Entry) → Shows (k a rest) (l (see S a) (map (slot S) rest)))
-      → Shows (withFrame es k) (unwind v (map (slot S) es) l)
-  frame-shows v [] k l h = tt
-  frame-shows v (value a ∷ rest) k l h = tt
-  frame-shows v (frame a ∷ rest) k l h = h a rest
-
-  element-shows : (cells : List Atom) (i : ℕ) (k : Atom → Request) (w : View)
-      → ((a : Atom) → At cells i a → Shows (k a) w) → Shows (withElement cells i k) w
-  element-shows [] i k w h = tt
-  element-shows (a ∷ cells) zero k w h = h a here
-  element-shows (a ∷ cells) (suc i) k w h = element-shows cells i k w (λ b at. h b (there at))
+      → ((a : Atom) (rest : List Entry) → Shows (l (see S a) (map (slot S) rest)) (k a rest))
+      → Shows (unwind v (map (slot S) es) l) (withFrame es k)
+  frame-shows v es k l h = frame-all (Shows (unwind v (map (slot S) es) l)) es k tt (λ a rest e. rw e (h a rest))
 
   cell-shows : (cells : List Atom) (z : ℤ) (k : ℕ → Atom → Request) (w : View)
-      → ((i : ℕ) (a : Atom) → z ≡ pos i → At cells i a → Shows (k i a) w)
-      → Shows (withCell cells z k) w
-  cell-shows cells (pos i) k w h = element-shows cells i (k i) w (λ a at. h i a refl at)
-  cell-shows cells (negsuc i) k w h = tt
+      → ((i : ℕ) (a : Atom) → z ≡ pos i → At cells i a → Shows w (k i a)) → Shows w (withCell cells z k)
+  cell-shows cells z k w h = cell-all (Shows w) cells z k tt h
 
 provided-shows : (S : ℕ) (b : Bool) (x : Stop) (t : State) (w : View)
     → erase S t ≡ w → Gives (λ t. erase S t ≡ w) (provided b x (stepped t))
-provided-shows S true x t w e = e
-provided-shows S false x t w e = tt
+provided-shows S b x t w e = provided-all (Gives (λ t. erase S t ≡ w)) b x (stepped t) (λ f. e) (λ f. tt)
 
 allowed-shows : (S : ℕ) (b : Bool) (p r : ℕ) (k : ℕ → ℕ → Outcome) (w : View)
     → (b ≡ true → Gives (λ t. erase S t ≡ w) (k p r)) → Gives (λ t. erase S t ≡ w) (decide (allowedIf b p r) k)

@@ -11,13 +11,9 @@ use Rattle.label.specs.Label.{join, flows}
 use Rattle.label.proofs.Laws.{flows-join, flows-trans}
 use Rattle.machine.specs.Atom.{Atom, Line}
 use Rattle.machine.specs.Claim.{keep, view}
+use Rattle.machine.proofs.Request.{At, here, there}
 use Rattle.machine.proofs.Privacy.Seen.{Seen, showIf, see, joined, both, see-both, both-unseen, see-outside}
 use Rattle.machine.proofs.Privacy.Erasure.{element, cell, changed, written, first, second}
-
--- the cell at an index
-pub data At : List Atom → ℕ → Atom → Type 0 where
-  here : {a : Atom} {cells : List Atom} → At (a ∷ cells) zero a
-  there : {a b : Atom} {cells : List Atom} {i : ℕ} → At cells i a → At (b ∷ cells) (suc i) a
 
 module _ (S : ℕ) where
   element-at : {cells : List Atom} {i : ℕ} {c : Atom} → At cells i c → element (map (see S) cells) i ≡ see S c
