@@ -3,3 +3,4 @@ pub mod Decode
 pub mod Fetching
 pub mod Checking
 pub mod Loading
+pub mod Encoding
