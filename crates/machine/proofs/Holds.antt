@@ -196,26 +196,30 @@ input-range : (i : Input) → InputHas InRange i → InRange (labelOf i)
 input-range (present l) h = h
 input-range missing h = bottom-range
 
-rule-range : (c : Opcode) (p l1 l2 l3 : ℕ) → InRange p → InRange l1 → InRangeVerdict (rule c p l1 l2 l3)
-rule-range add p l1 l2 l3 hp h1 = (hp, join-range l1 l2)
-rule-range sub p l1 l2 l3 hp h1 = (hp, join-range l1 l2)
-rule-range pop p l1 l2 l3 hp h1 = (hp, bottom-range)
-rule-range output p l1 l2 l3 hp h1 = (hp, join-range l1 p)
-rule-range push p l1 l2 l3 hp h1 = (hp, bottom-range)
-rule-range load p l1 l2 l3 hp h1 = (hp, join-range l1 l2)
-rule-range store p l1 l2 l3 hp h1 = go (flows (join l1 p) l3)
-  where
-    go : (b : Bool) → InRangeVerdict (allowedIf b p (join (join l1 l2) p))
-    go true = (hp, join-range (join l1 l2) p)
-    go false = tt
-rule-range jump p l1 l2 l3 hp h1 = (join-range l1 p, bottom-range)
-rule-range bnz p l1 l2 l3 hp h1 = (join-range l1 p, bottom-range)
-rule-range call p l1 l2 l3 hp h1 = (join-range l1 p, hp)
-rule-range ret p l1 l2 l3 hp h1 = (h1, bottom-range)
+verdict-range : (b : Bool) (p r : ℕ) → InRange p → InRange r → InRangeVerdict (allowedIf b p r)
+verdict-range true p r hp hr = (hp, hr)
+verdict-range false p r hp hr = tt
+
+-- whatever a table builds from labels in range by joins is in range
+ruleset ranges = (join-range, bottom-range)
+
+rule-range : (c : Opcode) (p l1 l2 l3 : ℕ) → InRange p → InRange l1 → InRange l2 → InRange l3 → InRangeVerdict (rule c p l1 l2 l3)
+rule-range add p l1 l2 l3 hp h1 h2 h3 = (search ranges, search ranges)
+rule-range sub p l1 l2 l3 hp h1 h2 h3 = (search ranges, search ranges)
+rule-range pop p l1 l2 l3 hp h1 h2 h3 = (search ranges, search ranges)
+rule-range output p l1 l2 l3 hp h1 h2 h3 = (search ranges, search ranges)
+rule-range push p l1 l2 l3 hp h1 h2 h3 = (search ranges, search ranges)
+rule-range load p l1 l2 l3 hp h1 h2 h3 = (search ranges, search ranges)
+rule-range store p l1 l2 l3 hp h1 h2 h3 = search (ranges, verdict-range)
+rule-range jump p l1 l2 l3 hp h1 h2 h3 = (search ranges, search ranges)
+rule-range bnz p l1 l2 l3 hp h1 h2 h3 = (search ranges, search ranges)
+rule-range call p l1 l2 l3 hp h1 h2 h3 = (search ranges, search ranges)
+rule-range ret p l1 l2 l3 hp h1 h2 h3 = (search ranges, search ranges)
 
 pub standard-range : Answers InRange standard
 unfolding standard
 standard-range k p r h e =
     let g : InRangeVerdict (standard k) =
-    rule-range (k .opcode) (k .pc) _ _ _ (h .pc) (input-range (k .input1) (h .input1)) in
+    rule-range (k .opcode) (k .pc) _ _ _ (h .pc)
+    (input-range (k .input1) (h .input1)) (input-range (k .input2) (h .input2)) (input-range (k .input3) (h .input3)) in
     rw e at g
