@@ -1,3 +1,2 @@
-pub mod Bool
 pub mod Set
 pub mod Laws

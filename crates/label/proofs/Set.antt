@@ -11,7 +11,7 @@ use lib.Bits.{bitOr, or-step, or-zero-l}
 use lib.Dec.{T, leb, eqb, leb→le, le→leb, leb·zero}
 use mir.Facts.{yes-eqb, eqb-yes}
 use Rattle.label.specs.Set.{member, union, subset}
-use Rattle.label.proofs.Bool.{bool-ext, and-left, and-right, and-intro, and-exchange, leb-max}
+use Rattle.word.proofs.Bool.{bool-ext, and-left, and-right, and-intro, and-exchange, leb-max}
 
 -- ════════════════════════════════════════════════════════════════════════════════════════════
 -- The lowest principal, and the others

@@ -1,1 +1,5 @@
 pub mod Command
+pub mod Decode
+pub mod Encode
+pub mod Space
+pub mod Fetch

@@ -1,1 +1,4 @@
 pub mod Signed
+pub mod Bool
+pub mod Lay
+pub mod Laws

@@ -19,6 +19,10 @@ use Rattle.word.specs.Number.{naturalOf}
 pub back : {z : ℤ} → SFits w64 z → toZ w64 (ofZ w64 z) ≡ z
 back f = toZ-ofZ f
 
+-- the same from the bound alone, which is what a call's `.ok` and an enum's field have
+pub back-ok : (z : ℤ) → mag z < 2 ^ 63 → toZ w64 (ofZ w64 z) ≡ z
+back-ok z h = back (record { sfits = h })
+
 pub negative : (z : ℤ) → ltZ z (pos 0) ≡ true → Negative ≡ naturalOf z
 negative (pos n) e = absurd (omega (arith, ltb-true n 0 e))
 negative (negsuc n) e = refl

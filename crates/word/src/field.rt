@@ -1,5 +1,82 @@
-// Fields of fixed width.
+// Fields of fixed width in a run of bytes: the operands on sheets, the numbers of a job. Read specs/Field.antt first.
+use crate::wrap::complement;
+ghost use mathlib.Core.Path.{_≡_};
+ghost use Prim.Native.Nat.{_+_, _<_, _≤_};
+ghost use lib.ListN.{length};
+ghost use lib.Dec.{leb};
+ghost use Rattle.word.specs.Field.{bitsAt, unsignedAt, signedAt};
+
+// A field's number, or that it is cut: fewer bytes are left than it has.
 pub enum Field {
     Number(i64),
     Cut,
+}
+
+pub fn i16_at(s: &[u8], at: usize) -> Field
+    ensures { λ r. ⌜ r ≡ signedAt 2 (now (s .entry)) at ⌝ }
+{
+    signed_at(s, at, 2)
+}
+
+pub fn i32_at(s: &[u8], at: usize) -> Field
+    ensures { λ r. ⌜ r ≡ signedAt 4 (now (s .entry)) at ⌝ }
+{
+    signed_at(s, at, 4)
+}
+
+pub fn i64_at(s: &[u8], at: usize) -> Field
+    ensures { λ r. ⌜ r ≡ signedAt 8 (now (s .entry)) at ⌝ }
+{
+    signed_at(s, at, 8)
+}
+
+pub fn u32_at(s: &[u8], at: usize) -> Field
+    ensures { λ r. ⌜ r ≡ unsignedAt 4 (now (s .entry)) at ⌝ }
+{
+    unsigned_at(s, at, 4)
+}
+
+fn signed_at(s: &[u8], at: usize, width: usize) -> Field
+    requires { ⌜ (0 < width) × (width ≤ 8) ⌝ }
+    ensures { λ r. ⌜ r ≡ signedAt width (now (s .entry)) at ⌝ }
+{
+    if within(s.len(), at, width) {
+        Field::Number(complement(bits(s, at, width), 8 * width))
+    } else {
+        Field::Cut
+    }
+}
+
+// Eight unsigned bytes may hold more than a word does.
+fn unsigned_at(s: &[u8], at: usize, width: usize) -> Field
+    requires { ⌜ width < 8 ⌝ }
+    ensures { λ r. ⌜ r ≡ unsignedAt width (now (s .entry)) at ⌝ }
+{
+    if within(s.len(), at, width) {
+        Field::Number(bits(s, at, width) as i64)
+    } else {
+        Field::Cut
+    }
+}
+
+// Do `size` bytes from `at` on lie within the first `len`? The sum is not formed: it may not fit.
+fn within(len: usize, at: usize, size: usize) -> bool
+    ensures { λ r. ⌜ r ≡ leb (at + size) len ⌝ }
+{
+    if len < size { false } else { at <= len - size }
+}
+
+// The little-endian number in so many bytes from a position on: the highest byte is the last.
+fn bits(s: &[u8], at: usize, width: usize) -> u64
+    requires { ⌜ (at + width ≤ length (now s)) × (width ≤ 8) ⌝ }
+    ensures { λ r. ⌜ r ≡ bitsAt width (now (s .entry)) at ⌝ }
+{
+    let mut number: u64 = 0;
+    let mut i = width;
+    while 0 < i {
+        i -= 1;
+        let byte = s[at + i] as u64;
+        number = number * 256 + byte;
+    }
+    number
 }

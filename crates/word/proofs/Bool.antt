@@ -1,4 +1,4 @@
--- Laws of Booleans that the laws of sets rest on.
+-- Laws of Booleans that other laws rest on.
 use mathlib.Core.Path.{_≡_, refl}
 use mathlib.Core.Bool.{Bool, true, false, _&&_}
 use Prim.Native.Nat.{ℕ, max}

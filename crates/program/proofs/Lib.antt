@@ -1,0 +1,5 @@
+pub mod Codes
+pub mod Decode
+pub mod Fetching
+pub mod Checking
+pub mod Loading

@@ -1,0 +1,54 @@
+-- Reading a program (document 01: a sheet) from bytes: its commands, or the first refusal. Checks 1 to 3.
+use Prim.Native.Nat.{ℕ, zero, suc, _+_}
+use mathlib.Core.List.{List, [], _∷_}
+use mathlib.Core.Option.{Option, none, some}
+use lib.ListN.{length, drop}
+use Rattle.word.specs.declared.field.Field.{Field}
+use Rattle.word.specs.declared.field.Field.the-variants.{Number, Cut}
+use Rattle.word.specs.Field.{signedAt}
+use Rattle.program.specs.declared.Command.{Command}
+use Rattle.program.specs.declared.Refusal.{Refusal}
+use Rattle.program.specs.declared.Checked.{Checked}
+use Rattle.program.specs.declared.Checked.the-variants as Checked
+use Rattle.program.specs.Command.{Opcode, opcodeOf, operandWidth, command}
+
+pub data Decoded : Type 0 where
+  refused : Refusal → Decoded
+  accepted : List Command → Decoded
+
+-- the refusal with a number and a place
+abbrev pub refusal : ℕ → ℕ → Refusal
+refusal code position = record { code = code; position = position }
+
+abbrev pub prepend : Command → Decoded → Decoded
+prepend c (refused r) = refused r
+prepend c (accepted cs) = accepted (c ∷ cs)
+
+-- the operand, then the rest of the program
+abbrev pub decodeOperand : Opcode → ℕ → Field → (ℕ → Decoded) → Decoded
+decodeOperand o at Cut rest = refused (refusal 3 at)
+decodeOperand o at (Number z) rest = prepend (command o z) (rest (operandWidth o))
+
+abbrev pub decodeOpcode : Option Opcode → ℕ → List ℕ → (ℕ → Decoded) → Decoded
+decodeOpcode none at bytes rest = refused (refusal 2 at)
+decodeOpcode (some o) at bytes rest = decodeOperand o at (signedAt (operandWidth o) bytes 0) rest
+
+-- the commands from the offset `at` on, of which `left` may follow
+unfoldable pub decodeFrom : ℕ → ℕ → List ℕ → Decoded
+decodeFrom zero at [] = accepted []
+decodeFrom zero at (b ∷ bytes) = refused (refusal 1 at)
+decodeFrom (suc left) at [] = accepted []
+decodeFrom (suc left) at (b ∷ bytes) =
+    decodeOpcode (opcodeOf b) at bytes (λ width. decodeFrom left (at + suc width) (drop width bytes))
+
+-- the largest number of commands
+abbrev pub commandLimit : ℕ
+commandLimit = 4096
+
+unfoldable pub decode : List ℕ → Decoded
+decode bytes = decodeFrom commandLimit 0 bytes
+
+-- what the check answers: how many commands there are, or the refusal
+abbrev pub checkAnswer : Decoded → Checked
+checkAnswer (refused r) = Checked.Refused r
+checkAnswer (accepted cs) = Checked.Accepted (length cs)

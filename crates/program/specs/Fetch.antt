@@ -1,0 +1,23 @@
+-- One command at a position, as the code of this crate reads it.
+use Prim.Native.Nat.{ℕ, _+_}
+use mathlib.Core.List.{List}
+use mathlib.Core.Option.{Option, none, some}
+use lib.ListN.{getD}
+use Rattle.word.specs.declared.field.Field.{Field}
+use Rattle.word.specs.declared.field.Field.the-variants as Field
+use Rattle.word.specs.Field.{signedAt}
+use Rattle.program.specs.declared.Fetched.{Fetched}
+use Rattle.program.specs.declared.Fetched.the-variants.{Is, Unknown, Cut}
+use Rattle.program.specs.Command.{Opcode, opcodeOf, operandWidth}
+
+abbrev pub fetchField : Field → ℕ → Fetched
+fetchField Field.Cut next = Cut
+fetchField (Field.Number z) next = Is z next
+
+abbrev pub fetchOpcode : Option Opcode → List ℕ → ℕ → Fetched
+fetchOpcode none s p = Unknown
+fetchOpcode (some o) s p = fetchField (signedAt (operandWidth o) s p) (p + operandWidth o)
+
+-- the operand of the command at a position and the position after it
+unfoldable pub fetchOf : List ℕ → ℕ → Fetched
+fetchOf s at = fetchOpcode (opcodeOf (getD s at 0)) s (at + 1)

@@ -1,0 +1,7 @@
+-- The laws of the definitions of specs/, over the width, the base and the position. Assumes nothing.
+pub mod Test
+pub mod Digits
+pub mod Modulo
+pub mod Wrap
+pub mod Word
+pub mod Field

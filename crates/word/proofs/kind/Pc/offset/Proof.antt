@@ -1,0 +1,18 @@
+-- `word::kind::Pc::offset` meets its contract: a command number is a word.
+-- Assumes nothing.
+use mathlib.Core.Path.{_∙_}
+use Rattle.word.proofs.Signed.{back, back-ok}
+use borrow.Author.Needs.{needs}
+use Rattle.word.proofs.kind.Pc.offset.Statement.{statement}
+use Rattle.word.proofs.kind.Pc.offset.Tie as tie
+
+add-requires : tie.Need-add-requires
+add-requires c κs = search needs
+
+returns : tie.Need-returns
+returns c =
+    back-ok (c .add .result) (c .add .ok)
+    ∙ (rw (back-ok (c .before .before .args .self .0) (c .before .struct-told .given .0 .1), back (c .before .before .fits .by)) at (c .add .ensures))
+
+pub offset-spec : {M : Type 1} → statement M
+offset-spec = tie.close (tie.spec add-requires returns)

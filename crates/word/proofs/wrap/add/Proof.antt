@@ -1,0 +1,43 @@
+-- `word::wrap::add` meets its contract: the sum of two words, modulo 2^64, is that of their bits.
+-- Assumes nothing.
+use Rattle.word.proofs.Signed.{back, back-ok}
+use Rattle.word.proofs.Laws.Wrap.{addWrap-signed}
+use borrow.Author.Needs.{needs}
+use Rattle.word.proofs.wrap.add.Statement.{statement}
+use Rattle.word.proofs.wrap.add.Tie as tie
+
+to-bits-requires : tie.Need-to-bits-requires
+to-bits-requires c κs = search needs
+
+to-bits-requires-2 : tie.Need-to-bits-requires-2
+to-bits-requires-2 c κs = search needs
+
+wrapping-add-u64-requires : tie.Need-wrapping-add-u64-requires
+wrapping-add-u64-requires c κs = search needs
+
+complement-requires : tie.Need-complement-requires
+complement-requires c κs = search needs
+
+returns : tie.Need-returns
+returns c =
+    let start = c .before .before .before .before in
+    rw (
+      back-ok (c .complement .result) (c .complement .ok),
+      c .complement .ensures,
+      c .before .wrapping-add-u64 .ensures,
+      c .before .before .before .to-bits .ensures,
+      c .before .before .to-bits2 .ensures,
+      back (start .fits .a),
+      back (start .fits .b),
+    )
+    (addWrap-signed (start .args .a) (start .args .b))
+
+pub add-spec : {M : Type 1} → statement M
+add-spec =
+    tie.close
+    (tie.spec
+    to-bits-requires
+    to-bits-requires-2
+    wrapping-add-u64-requires
+    complement-requires
+    returns)

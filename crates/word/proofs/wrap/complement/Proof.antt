@@ -1,0 +1,57 @@
+-- `word::wrap::complement` meets its contract: the lower half stand for themselves, the upper half for the numbers from -1 down.
+-- Assumes nothing.
+use borrow.Author.Needs.{needs}
+use native.Mathlib.Omega.{arith}
+use Rattle.word.proofs.Laws.Wrap.{pow-half}
+use Rattle.word.proofs.Laws.Word.{top-half, top-word, lower-signed, upper-fits, upper-signed}
+use Rattle.word.proofs.wrap.complement.Statement.{statement}
+use Rattle.word.proofs.wrap.complement.Tie as tie
+
+sub-half : tie.Need-sub-half
+sub-half c = search needs
+
+shl-half : tie.Need-shl-half
+shl-half c = search needs
+
+cast-result : tie.Need-cast-result
+cast-result c =
+    record { sfits = omega (arith, top-word (c .before .args .width) (search needs) (search needs)) }
+
+sub-result : tie.Need-sub-result
+sub-result c = omega (arith, top-half (c .before .args .width) (search needs) (search needs), pow-half (c .before .args .width) (search needs))
+
+sub-result-2 : tie.Need-sub-result-2
+sub-result-2 c = omega (arith, top-half (c .before .args .width) (search needs) (search needs), pow-half (c .before .args .width) (search needs))
+
+cast-result-2 : tie.Need-cast-result-2
+cast-result-2 c =
+    record { sfits = omega (arith, top-word (c .before .args .width) (search needs) (search needs)) }
+
+sub-result-3 : tie.Need-sub-result-3
+sub-result-3 c =
+    let a = c .before .args in
+    upper-fits (a .width) (a .bits) (search needs) (search needs) (search needs) (c .if1 .left)
+
+returns : tie.Need-returns
+returns c =
+    let a = c .before .args in
+    lower-signed (a .width) (a .bits) (search needs) (search needs) (c .if1 .taken)
+
+returns-2 : tie.Need-returns-2
+returns-2 c =
+    let a = c .before .args in
+    upper-signed (a .width) (a .bits) (search needs) (search needs) (search needs) (c .if1 .left)
+
+pub complement-spec : {M : Type 1} → statement M
+complement-spec =
+    tie.close
+    (tie.spec
+    sub-half
+    shl-half
+    cast-result
+    sub-result
+    sub-result-2
+    cast-result-2
+    sub-result-3
+    returns
+    returns-2)
