@@ -1,15 +1,17 @@
--- What holds of every number and of every label of a state (specs/Holds.antt) is kept by a run. So labels stay in range.
+-- What holds of every number and of every label of a state (specs/Holds.antt) is kept by a run. So labels
+-- stay in range and numbers within 64 bits.
 -- Assumes nothing.
 use mathlib.Core.Path.{_≡_, refl}
-use mathlib.Core.Bool.{Bool, true, false}
+use mathlib.Core.Bool.{Bool, true, false, cond}
 use mathlib.Core.List.{List, [], _∷_, _++_}
-use Prim.Native.Nat.{ℕ, zero, suc}
+use Prim.Native.Nat.{ℕ, zero, suc, _-_, _^_, _≤_, _<_}
 use native.Mathlib.Omega.{arith}
 use lib.IntN.{ℤ, pos, negsuc, _+ℤ_}
 use lib.ListN.{length, set}
 use lib.Dec.{ltb}
-use Rattle.word.specs.Wrap.{wrap, addWrap, subWrap}
-use Rattle.label.specs.Label.{InRange, bottom, join, flows}
+use Rattle.word.specs.Wrap.{Signed, wrap, addWrap, subWrap}
+use Rattle.word.proofs.Laws.Wrap.{wrap-signed}
+use Rattle.label.specs.Label.{InRange, bottom}
 use Rattle.label.proofs.Laws.{join-range}
 use Rattle.program.specs.declared.Command.{Command}
 use Rattle.program.specs.declared.Command.the-variants.{Add, Sub, Pop, Output, Push, Load, Store, Jump, Bnz, Call, Ret}
@@ -22,7 +24,7 @@ use Rattle.machine.specs.Step.{Request, halt, ask, stackLimit, withValue
 use Rattle.machine.specs.Step.{branch, decide, consult, request, execute}
 use Rattle.machine.specs.Run.{step, run}
 use Rattle.machine.specs.Stopped.{CommandAt}
-use Rattle.machine.specs.Holds.{Each, AtomHas, EntryHas, LineHas, Holds, LabelsInRange, InputHas, Answers, ProgramHas}
+use Rattle.machine.specs.Holds.{Each, AtomHas, EntryHas, LineHas, Holds, LabelsInRange, NumbersSigned, InputHas, Answers, ProgramHas}
 use Rattle.machine.proofs.Request.{At, here, there, value-all, values-all, frame-all, cell-all, provided-all}
 use Rattle.machine.proofs.Step.{Gives, gives-stepped, step-all, run-keeps}
 
@@ -196,26 +198,68 @@ input-range : (i : Input) → InputHas InRange i → InRange (labelOf i)
 input-range (present l) h = h
 input-range missing h = bottom-range
 
-rule-range : (c : Opcode) (p l1 l2 l3 : ℕ) → InRange p → InRange l1 → InRangeVerdict (rule c p l1 l2 l3)
-rule-range add p l1 l2 l3 hp h1 = (hp, join-range l1 l2)
-rule-range sub p l1 l2 l3 hp h1 = (hp, join-range l1 l2)
-rule-range pop p l1 l2 l3 hp h1 = (hp, bottom-range)
-rule-range output p l1 l2 l3 hp h1 = (hp, join-range l1 p)
-rule-range push p l1 l2 l3 hp h1 = (hp, bottom-range)
-rule-range load p l1 l2 l3 hp h1 = (hp, join-range l1 l2)
-rule-range store p l1 l2 l3 hp h1 = go (flows (join l1 p) l3)
-  where
-    go : (b : Bool) → InRangeVerdict (allowedIf b p (join (join l1 l2) p))
-    go true = (hp, join-range (join l1 l2) p)
-    go false = tt
-rule-range jump p l1 l2 l3 hp h1 = (join-range l1 p, bottom-range)
-rule-range bnz p l1 l2 l3 hp h1 = (join-range l1 p, bottom-range)
-rule-range call p l1 l2 l3 hp h1 = (join-range l1 p, hp)
-rule-range ret p l1 l2 l3 hp h1 = (h1, bottom-range)
+verdict-range : (b : Bool) (p r : ℕ) → InRange p → InRange r → InRangeVerdict (allowedIf b p r)
+verdict-range true p r hp hr = (hp, hr)
+verdict-range false p r hp hr = tt
+
+-- whatever a table builds from labels in range by joins is in range
+ruleset ranges = (join-range, bottom-range)
+
+rule-range : (c : Opcode) (p l1 l2 l3 : ℕ) → InRange p → InRange l1 → InRange l2 → InRange l3
+    → InRangeVerdict (rule c p l1 l2 l3)
+rule-range add p l1 l2 l3 hp h1 h2 h3 = (search ranges, search ranges)
+rule-range sub p l1 l2 l3 hp h1 h2 h3 = (search ranges, search ranges)
+rule-range pop p l1 l2 l3 hp h1 h2 h3 = (search ranges, search ranges)
+rule-range output p l1 l2 l3 hp h1 h2 h3 = (search ranges, search ranges)
+rule-range push p l1 l2 l3 hp h1 h2 h3 = (search ranges, search ranges)
+rule-range load p l1 l2 l3 hp h1 h2 h3 = (search ranges, search ranges)
+rule-range store p l1 l2 l3 hp h1 h2 h3 = search (ranges, verdict-range)
+rule-range jump p l1 l2 l3 hp h1 h2 h3 = (search ranges, search ranges)
+rule-range bnz p l1 l2 l3 hp h1 h2 h3 = (search ranges, search ranges)
+rule-range call p l1 l2 l3 hp h1 h2 h3 = (search ranges, search ranges)
+rule-range ret p l1 l2 l3 hp h1 h2 h3 = (search ranges, search ranges)
 
 pub standard-range : Answers InRange standard
 unfolding standard
 standard-range k p r h e =
     let g : InRangeVerdict (standard k) =
-    rule-range (k .opcode) (k .pc) _ _ _ (h .pc) (input-range (k .input1) (h .input1)) in
+    rule-range (k .opcode) (k .pc) _ _ _ (h .pc)
+    (input-range (k .input1) (h .input1)) (input-range (k .input2) (h .input2)) (input-range (k .input3) (h .input3)) in
     rw e at g
+
+-- ════════════════════════════════════════════════════════════════════════════════════════════
+-- Numbers of 64 bits
+-- ════════════════════════════════════════════════════════════════════════════════════════════
+
+place-lt : (cs : List Command) (i : ℕ) (c : Command) → CommandAt cs (pos i) c → i < length cs
+place-lt [] i c e = let z : _≡_ {A = ℕ} 0 1 = cc in absurd (omega arith)
+place-lt (d ∷ cs) zero c e = omega arith
+place-lt (d ∷ cs) (suc i) c e = let h : i < length cs = place-lt cs i c e in omega arith
+
+sum-signed : (i : ℕ) (n : ℤ) → i < 2 ^ 62 → Signed 63 n → Signed 64 (pos i +ℤ n)
+sum-signed i (pos b) h g = omega arith
+sum-signed i (negsuc b) h g = go (ltb i (suc b))
+  where
+    go : (t : Bool) → Signed 64 (cond t (negsuc (suc b - suc i)) (pos (i - suc b)))
+    go true = omega arith
+    go false = omega arith
+
+-- a program's operands and places have 64 bits where those of Push have 64, those of Bnz 63, and it is not too long
+pub program-signed : (cs : List Command) → length cs ≤ 2 ^ 62
+    → ((z n : ℤ) → CommandAt cs z (Push n) → Signed 64 n) → ((z n : ℤ) → CommandAt cs z (Bnz n) → Signed 63 n)
+    → ProgramHas (Signed 64) cs
+program-signed cs h pushed branched =
+    record {
+      pushed = pushed;
+      branched = λ z n at. goes z (Bnz n) n at (branched z n at);
+      following = λ z c at. goes z c (pos 1) at (omega arith);
+    }
+  where
+    goes : (z : ℤ) (c : Command) (n : ℤ) → CommandAt cs z c → Signed 63 n → Signed 64 (z +ℤ n)
+    goes (pos i) c n at g = let l : i < length cs = place-lt cs i c at in sum-signed i n (omega arith) g
+    goes (negsuc i) c n at g = absurd at
+
+pub run-numbers : (π : Policy) (room : ℕ) (cs : List Command) → ProgramHas (Signed 64) cs
+    → (fuel : ℕ) (s : State) → NumbersSigned s → NumbersSigned (run π room cs fuel s .state)
+run-numbers π room cs has fuel s h =
+    run-holds (Signed 64) (λ l. Unit) wrap-signed cs has π (λ k p r g e. (tt, tt)) room fuel s h
