@@ -49,9 +49,13 @@ decode-from (c ∷ cs) zero at h w = absurd (omega arith)
 decode-from (c ∷ cs) (suc left) at h w =
     let o = opcode c in
     let z = operand c in
-    rw (opcodeOf-codeOf o, operand-bytes c (w .0) (encode cs),
-    drop-at (bytesOf (operandWidth o) z) (encode cs) (operandWidth o) (Field.bytes-length (operandWidth o) z),
-    decode-from cs left (at + suc (operandWidth o)) (omega arith) (w .1), command-whole c)
+    rw (
+      opcodeOf-codeOf o,
+      operand-bytes c (w .0) (encode cs),
+      drop-at (bytesOf (operandWidth o) z) (encode cs) (operandWidth o) (Field.bytes-length (operandWidth o) z),
+      decode-from cs left (at + suc (operandWidth o)) (omega arith) (w .1),
+      command-whole c,
+    )
 
 -- writing at most 4,096 commands as bytes and reading the bytes gives the commands
 pub decode-encode : (cs : List Command) → length cs ≤ commandLimit → AllWritable cs → decode (encode cs) ≡ accepted cs
