@@ -2,5 +2,6 @@
 pub mod field;
 pub mod kind;
 pub mod number;
+mod part;
 pub mod text;
 pub mod wrap;

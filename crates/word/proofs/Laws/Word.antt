@@ -99,6 +99,13 @@ module _ (z : ℤ) (f : SFits w64 z) where
         by (pos n) f e = absurd (omega (arith, ltb-true n 0 e))
         by (negsuc n) f e = let h = f .sfits in omega (arith, residue-ofZ (negsuc n) (f .sfits))
 
+    pub flip-abs : mag z + 1 ≡ natAbs z
+    flip-abs = by z (rw (toZ-ofZ f) at e)
+      where
+        by : (z : ℤ) → ltZ z (pos 0) ≡ true → mag z + 1 ≡ natAbs z
+        by (pos n) e = absurd (omega (arith, ltb-true n 0 e))
+        by (negsuc n) e = omega arith
+
   pub natural-residue : ltZ (toZ w64 (ofZ w64 z)) (pos 0) ≡ false → natAbs (toZ w64 (ofZ w64 z)) ≡ residue 64 z
   natural-residue e = rw (toZ-ofZ f) (by z f (rw (toZ-ofZ f) at e))
     where
