@@ -3,4 +3,7 @@ pub mod Rule
 pub mod State
 pub mod Step
 pub mod Run
+pub mod Stopped
+pub mod Holds
+pub mod Reading
 pub mod Claim

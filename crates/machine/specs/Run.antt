@@ -7,7 +7,8 @@ use lib.ListN.{length}
 use lib.Dec.{eqb}
 use Rattle.program.specs.declared.Command.{Command}
 use Rattle.machine.specs.Rule.{Policy}
-use Rattle.machine.specs.State.{State, Stop, end, fuelSpent, pcOutside}
+use Rattle.machine.specs.State.{State, Stop, end, fuelSpent, pcOutside, valueMissing, frameMissing}
+use Rattle.machine.specs.State.{addressOutside, denial, stackFull, outputFull}
 use Rattle.machine.specs.Step.{Outcome, stopped, stepped, execute}
 
 -- where a run ended: the stop, and the state that it stopped in
@@ -48,3 +49,23 @@ unfoldable pub run : Policy → ℕ → List Command → ℕ → State → Resul
 run π room cs zero s = unlessEnd (atEnd (length cs) (s .pc .number)) s (record { stop = fuelSpent; state = s })
 run π room cs (suc fuel) s =
     let r : Result = after (step π room cs s) s (λ t. run π room cs fuel t) in unlessEnd (atEnd (length cs) (s .pc .number)) s r
+
+-- was it the allowance?
+abbrev pub spent : Stop → Bool
+spent end = false
+spent fuelSpent = true
+spent pcOutside = false
+spent valueMissing = false
+spent frameMissing = false
+spent addressOutside = false
+spent denial = false
+spent stackFull = false
+spent outputFull = false
+
+abbrev pub continueIf : Bool → Result → Result → Result
+continueIf true r more = more
+continueIf false r more = r
+
+-- carrying on with `fuel` more steps: from a stop for spent allowance the run goes on, every other stop stays
+unfoldable pub continue : Policy → ℕ → List Command → ℕ → Result → Result
+continue π room cs fuel r = let more : Result = run π room cs fuel (r .state) in continueIf (spent (r .stop)) r more

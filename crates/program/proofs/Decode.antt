@@ -5,19 +5,19 @@ use mathlib.Core.Bool.{Bool, true, false}
 use mathlib.Core.List.{List, [], _∷_, _++_}
 use mathlib.Core.Option.{Option, none, some}
 use Prim.Native.Nat.{ℕ, zero, suc, _+_, _<_, _≤_, _-_, _*_}
-use native.Mathlib.Nat.{add-suc}
+use native.Mathlib.Nat.{zero-add, add-comm}
 use native.Mathlib.Omega.{arith}
 use lib.IntN.{ℤ, pos}
-use lib.Dec.{leb, leb→le, le→leb}
+use lib.Dec.{leb}
 use lib.ListN.{length, drop, getD, take, length-drop}
 use lib.Seq.{drop-cons, drop-drop}
-use borrow.Author.Tests.{leb-true}
+use borrow.Author.Tests.{leb-true, le-leb}
 use Rattle.word.specs.declared.field.Field.{Field}
 use Rattle.word.specs.declared.field.Field.the-variants.{Number, Cut}
 use Rattle.word.specs.Field.{signedAt, bitsAt, whole}
 use Rattle.word.specs.Wrap.{signed}
 use Rattle.word.specs.Digits.{valueOf}
-use Rattle.word.proofs.Bool.{bool-ext}
+use Rattle.word.proofs.Laws.Test.{leb-shift}
 use Rattle.program.specs.declared.Command.{Command}
 use Rattle.program.specs.Command.{Opcode, opcodeOf, operandWidth, command}
 use Rattle.program.specs.Decode.{Decoded, refused, accepted, refusal, prepend, decodeOperand, decodeOpcode, decodeFrom}
@@ -49,16 +49,10 @@ decode-length (suc left) at [] = omega arith
 decode-length (suc left) at (b ∷ s) =
     opcode-length at s (λ w. decodeFrom left (at + suc w) (drop w s)) (opcodeOf b) left (λ w. decode-length left (at + suc w) (drop w s))
 
-leb-shift : (n p k : ℕ) → p ≤ n → leb (0 + k) (n - p) ≡ leb (p + k) n
-leb-shift n p k h =
-    bool-ext (leb (0 + k) (n - p)) (leb (p + k) n)
-    (λ t. let e = leb→le (0 + k) (n - p) t in le→leb (p + k) n (omega arith))
-    (λ t. let e = leb→le (p + k) n t in le→leb (0 + k) (n - p) (omega arith))
-
 -- a field in what is left from a position on is the field at that position
 pub signedAt-drop : (k : ℕ) (s : List ℕ) (p : ℕ) → p ≤ length s → signedAt k (drop p s) 0 ≡ signedAt k s p
 unfolding signedAt bitsAt
-signedAt-drop k s p h = rw (length-drop p s, leb-shift (length s) p k h)
+signedAt-drop k s p h = rw (length-drop p s, leb-shift (0 + k) p (length s) h, zero-add k, add-comm k p)
 
 -- the field of no bytes is 0
 pub signedAt-none : (s : List ℕ) (p : ℕ) (z : ℤ) → signedAt 0 s p ≡ Number z → z ≡ pos 0
@@ -68,6 +62,10 @@ signedAt-none s p z e = none-whole (leb (p + 0) (length s)) e
     none-whole : (b : Bool) → whole b (pos 0) ≡ Number z → z ≡ pos 0
     none-whole true e = cc
     none-whole false e = absurd (let z : _≡_ {A = ℕ} 0 1 = cc in omega arith)
+
+pub signedAt-empty : (s : List ℕ) (p : ℕ) → p ≤ length s → signedAt 0 s p ≡ Number (pos 0)
+unfolding signedAt bitsAt signed valueOf
+signedAt-empty s p h = rw (le-leb (p + 0) (length s) (omega arith))
 
 -- a whole field ends within the bytes
 pub signedAt-whole : (k : ℕ) (s : List ℕ) (p : ℕ) (z : ℤ) → signedAt k s p ≡ Number z → p + k ≤ length s

@@ -1,3 +1,6 @@
 pub mod Codes
 pub mod Decode
-pub mod Fetch
+pub mod Fetching
+pub mod Checking
+pub mod Loading
+pub mod Encoding

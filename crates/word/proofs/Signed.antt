@@ -19,7 +19,7 @@ use Rattle.word.specs.Number.{naturalOf}
 pub back : {z : ℤ} → SFits w64 z → toZ w64 (ofZ w64 z) ≡ z
 back f = toZ-ofZ f
 
--- the same of what a call hands back: its `.ok` is the bound alone
+-- the same from the bound alone, which is what a call's `.ok` and an enum's field have
 pub back-ok : (z : ℤ) → mag z < 2 ^ 63 → toZ w64 (ofZ w64 z) ≡ z
 back-ok z h = back (record { sfits = h })
 
@@ -34,7 +34,3 @@ natural (negsuc n) e = cc
 pub cast-natural : (z : ℤ) → SFits w64 z → ltZ z (pos 0) ≡ false → T (nonNeg z) × Fits w64 (natAbs z)
 cast-natural (pos n) f e = (tt, record { fits = let h = f .sfits in omega arith })
 cast-natural (negsuc n) f e = let z : _≡_ {A = ℕ} 0 1 = cc in absurd (omega arith)
-
--- the same from a bound, as an enum's field or a call's result has it
-pub back-mag : (z : ℤ) → mag z < 2 ^ 63 → toZ w64 (ofZ w64 z) ≡ z
-back-mag z h = back (record { sfits = h })

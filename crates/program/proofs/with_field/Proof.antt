@@ -1,7 +1,7 @@
 -- `program::with_field` meets its contract, by the field's two cases.
 -- Assumes nothing.
 use borrow.Author.Needs.{needs}
-use Rattle.word.proofs.Signed.{back-mag}
+use Rattle.word.proofs.Signed.{back-ok}
 use Rattle.program.proofs.with_field.Statement.{statement}
 use Rattle.program.proofs.with_field.Tie as tie
 
@@ -12,7 +12,7 @@ enum-told : tie.Need-enum-told
 enum-told c = search needs
 
 returns : tie.Need-returns
-returns c = rw (back-mag (c .before .field .given .0 .0) (c .known-told .given .0 .1), c .before .field .given .1)
+returns c = rw (back-ok (c .before .field .given .0 .0) (c .known-told .given .0 .1), c .before .field .given .1)
 
 returns-2 : tie.Need-returns-2
 returns-2 c = search needs

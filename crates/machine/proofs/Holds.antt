@@ -1,0 +1,265 @@
+-- What holds of every number and of every label of a state (specs/Holds.antt) is kept by a run. So labels
+-- stay in range and numbers within 64 bits.
+-- Assumes nothing.
+use mathlib.Core.Path.{_≡_, refl}
+use mathlib.Core.Bool.{Bool, true, false, cond}
+use mathlib.Core.List.{List, [], _∷_, _++_}
+use Prim.Native.Nat.{ℕ, zero, suc, _-_, _^_, _≤_, _<_}
+use native.Mathlib.Omega.{arith}
+use lib.IntN.{ℤ, pos, negsuc, _+ℤ_}
+use lib.ListN.{length, set}
+use lib.Dec.{ltb}
+use Rattle.word.specs.Wrap.{Signed, wrap, addWrap, subWrap}
+use Rattle.word.proofs.Laws.Wrap.{wrap-signed}
+use Rattle.label.specs.Label.{InRange, bottom}
+use Rattle.label.proofs.Laws.{join-range}
+use Rattle.program.specs.declared.Command.{Command}
+use Rattle.program.specs.declared.Command.the-variants.{Add, Sub, Pop, Output, Push, Load, Store, Jump, Bnz, Call, Ret}
+use Rattle.program.specs.Command.{Opcode, add, sub, pop, output, push, load, store, jump, bnz, call, ret, opcode}
+use Rattle.machine.specs.Atom.{Atom, Entry, value, frame, Line}
+use Rattle.machine.specs.Rule.{Input, present, missing, Key, Verdict, denied, allowed, Policy, standard}
+use Rattle.machine.specs.Rule.{labelOf, allowedIf, rule}
+use Rattle.machine.specs.State.{State, stackFull, outputFull}
+use Rattle.machine.specs.Step.{Request, halt, ask, stackLimit, withValue, withValues, withFrame, withCell, atom}
+use Rattle.machine.specs.Step.{branch, decide, consult, request, execute}
+use Rattle.machine.specs.Run.{step, run}
+use Rattle.machine.specs.Stopped.{CommandAt}
+use Rattle.machine.specs.Holds.{Each, AtomHas, EntryHas, LineHas, Holds, LabelsInRange, NumbersSigned, InputHas, Answers, ProgramHas}
+use Rattle.machine.proofs.Request.{At, here, there, value-all, values-all, frame-all, cell-all, provided-all}
+use Rattle.machine.proofs.Step.{Gives, gives-stepped, step-all, run-keeps}
+
+-- ════════════════════════════════════════════════════════════════════════════════════════════
+-- Lists
+-- ════════════════════════════════════════════════════════════════════════════════════════════
+
+each-at : (P : Atom → Type 0) {l : List Atom} {i : ℕ} {a : Atom} → At l i a → Each P l → P a
+each-at P here h = h .0
+each-at P (there at) h = each-at P at (h .1)
+
+each-set : (P : Atom → Type 0) (l : List Atom) (i : ℕ) (a : Atom) → P a → Each P l → Each P (set l i a)
+each-set P [] i a p h = tt
+each-set P (b ∷ l) zero a p h = (p, h .1)
+each-set P (b ∷ l) (suc i) a p h = (h .0, each-set P l i a p (h .1))
+
+each-snoc : (P : Line → Type 0) (l : List Line) (a : Line) → Each P l → P a → Each P (l ++ (a ∷ []))
+each-snoc P [] a h p = (p, tt)
+each-snoc P (b ∷ l) a h p = (h .0, each-snoc P l a (h .1) p)
+
+-- ════════════════════════════════════════════════════════════════════════════════════════════
+-- A step
+-- ════════════════════════════════════════════════════════════════════════════════════════════
+
+module _ (N : ℤ → Type 0) (L : ℕ → Type 0) (s : State) (h : Holds N L s) where
+  -- the inputs' labels have L, and with two such labels of the rule the effect keeps what holds
+  abbrev Keeps : Request → Type 0
+  Keeps (halt x) = Unit
+  Keeps (ask l1 l2 l3 k) =
+      InputHas L l1 × InputHas L l2 × InputHas L l3 × ((p r : ℕ) → L p → L r → Gives (Holds N L) (k p r))
+
+  value-keeps : (k : Atom → List Entry → Request)
+      → ((a : Atom) (rest : List Entry) → AtomHas N L a → Each (EntryHas N L) rest → Keeps (k a rest))
+      → Keeps (withValue (s .stack) k)
+  value-keeps k f =
+      value-all Keeps (s .stack) k tt (λ a rest e.
+      let g : Each (EntryHas N L) (value a ∷ rest) = rw e at (h .stack) in f a rest (g .0) (g .1))
+
+  values-keeps : (k : Atom → Atom → List Entry → Request)
+      → ((a b : Atom) (rest : List Entry) → AtomHas N L a → AtomHas N L b → Each (EntryHas N L) rest → Keeps (k a b rest))
+      → Keeps (withValues (s .stack) k)
+  values-keeps k f =
+      values-all Keeps (s .stack) k tt (λ a b rest e.
+      let g : Each (EntryHas N L) (value a ∷ value b ∷ rest) = rw e at (h .stack) in f a b rest (g .0) (g .1 .0) (g .1 .1))
+
+  frame-keeps : (k : Atom → List Entry → Request)
+      → ((a : Atom) (rest : List Entry) → AtomHas N L a → Each (EntryHas N L) rest → Keeps (k a rest))
+      → Keeps (withFrame (s .stack) k)
+  frame-keeps k f =
+      frame-all Keeps (s .stack) k tt (λ a rest e.
+      let g : Each (EntryHas N L) (frame a ∷ rest) = rw e at (h .stack) in f a rest (g .0) (g .1))
+
+  cell-keeps : (z : ℤ) (k : ℕ → Atom → Request)
+      → ((i : ℕ) (c : Atom) → AtomHas N L c → Keeps (k i c)) → Keeps (withCell (s .memory) z k)
+  cell-keeps z k f = cell-all Keeps (s .memory) z k tt (λ i c e at. f i c (each-at (AtomHas N L) at (h .memory)))
+
+  -- another place and stack
+  moved : {p : Atom} {es : List Entry} {n : ℕ} → AtomHas N L p → Each (EntryHas N L) es
+      → Holds N L (record { pc = p; stack = es; memory = s .memory; lines = s .lines; steps = n })
+  moved g f = record { pc = g; stack = f; memory = h .memory; lines = h .lines }
+
+  branch-has : (m n : ℤ) → N (s .pc .number +ℤ pos 1) → N (s .pc .number +ℤ n) → N (branch m (s .pc .number) n)
+  branch-has (pos zero) n f g = f
+  branch-has (pos (suc m)) n f g = g
+  branch-has (negsuc m) n f g = g
+
+  module _ (wraps : (z : ℤ) → N (wrap z)) (cs : List Command) (has : ProgramHas N cs) (on : N (s .pc .number +ℤ pos 1)) where
+    request-keeps : (room : ℕ) (c : Command) → CommandAt cs (s .pc .number) c → Keeps (request room c s)
+    unfolding request addWrap subWrap
+    request-keeps room Add at =
+        values-keeps _ (λ a b rest ha hb hs. (ha .1, hb .1, tt, λ p r hp hr. moved (on, hp) ((wraps _, hr), hs)))
+    request-keeps room Sub at =
+        values-keeps _ (λ a b rest ha hb hs. (ha .1, hb .1, tt, λ p r hp hr. moved (on, hp) ((wraps _, hr), hs)))
+    request-keeps room Pop at = value-keeps _ (λ a rest ha hs. (ha .1, tt, tt, λ p r hp hr. moved (on, hp) hs))
+    request-keeps room Output at =
+        value-keeps _ (λ a rest ha hs. (
+          ha .1,
+          tt,
+          tt,
+          λ p r hp hr.
+              let written : Each (LineHas N L) (s .lines ++ (record { number = a .number; label = r } ∷ [])) =
+              each-snoc (LineHas N L) (s .lines) _ (h .lines) (ha .0, hr) in
+              provided-all (Gives (Holds N L)) (ltb (length (s .lines)) room) outputFull _
+              (λ e. record { pc = (on, hp); stack = hs; memory = h .memory; lines = written })
+              (λ e. tt),
+        ))
+    request-keeps room (Push n) at = (
+      tt,
+      tt,
+      tt,
+      λ p r hp hr.
+          provided-all (Gives (Holds N L)) (ltb (length (s .stack)) stackLimit) stackFull _
+          (λ e. moved (on, hp) ((has .pushed (s .pc .number) n at, hr), h .stack))
+          (λ e. tt),
+    )
+    request-keeps room Load at =
+        value-keeps _ (λ a rest ha hs. cell-keeps (a .number) _ (λ i c hc.
+        (ha .1, hc .1, tt, λ p r hp hr. moved (on, hp) ((hc .0, hr), hs))))
+    request-keeps room Store at =
+        values-keeps _ (λ a b rest ha hb hs. cell-keeps (a .number) _ (λ i c hc. (
+          ha .1,
+          hb .1,
+          hc .1,
+          λ p r hp hr.
+              let stored : Each (AtomHas N L) (set (s .memory) i (atom (b .number) r)) =
+              each-set (AtomHas N L) (s .memory) i _ (hb .0, hr) (h .memory) in
+              record { pc = (on, hp); stack = hs; memory = stored; lines = h .lines },
+        )))
+    request-keeps room Jump at = value-keeps _ (λ a rest ha hs. (ha .1, tt, tt, λ p r hp hr. moved (ha .0, hp) hs))
+    request-keeps room (Bnz n) at =
+        value-keeps _ (λ a rest ha hs. (
+          ha .1,
+          tt,
+          tt,
+          λ p r hp hr.
+              moved (branch-has (a .number) n on (has .branched (s .pc .number) n at), hp) hs,
+        ))
+    request-keeps room Call at =
+        values-keeps _ (λ a b rest ha hb hs. (ha .1, tt, tt, λ p r hp hr. moved (ha .0, hp) (hb, ((on, hr), hs))))
+    request-keeps room Ret at = frame-keeps _ (λ a rest ha hs. (ha .1, tt, tt, λ p r hp hr. moved (ha .0, hp) hs))
+
+module _ (N : ℤ → Type 0) (L : ℕ → Type 0) (wraps : (z : ℤ) → N (wrap z)) (cs : List Command) (has : ProgramHas N cs) where
+  module _ (π : Policy) (answers : Answers L π) where
+    consult-holds : (c : Command) (s : State) (h : Holds N L s) (q : Request)
+        → Keeps N L s h q → Gives (Holds N L) (consult π c s q)
+    consult-holds c s h (halt x) g = tt
+    consult-holds c s h (ask l1 l2 l3 k) (h1, h2, h3, g) = go _ refl
+      where
+        key : Key
+        key = record { opcode = opcode c; pc = s .pc .label; input1 = l1; input2 = l2; input3 = l3 }
+
+        go : (v : Verdict) → π key ≡ v → Gives (Holds N L) (decide v k)
+        go denied e = tt
+        go (allowed p r) e =
+            let (hp, hr) = answers key p r (record { pc = h .pc .1; input1 = h1; input2 = h2; input3 = h3 }) e in
+            g p r hp hr
+
+    step-holds : (room : ℕ) (s : State) → Holds N L s → Gives (Holds N L) (step π room cs s)
+    unfolding execute
+    step-holds room s h =
+        step-all π room s (Gives (Holds N L)) cs
+        (λ c at.
+        let on : N (s .pc .number +ℤ pos 1) = has .following (s .pc .number) c at in
+        consult-holds c s h (request room c s) (request-keeps N L s h wraps cs has on room c at))
+        (λ e. tt)
+
+    pub run-holds : (room fuel : ℕ) (s : State) → Holds N L s → Holds N L (run π room cs fuel s .state)
+    run-holds room fuel s h =
+        run-keeps π room cs (Holds N L) (λ s t e g. gives-stepped (Holds N L) e (step-holds room s g)) fuel s h
+
+-- ════════════════════════════════════════════════════════════════════════════════════════════
+-- Labels in range
+-- ════════════════════════════════════════════════════════════════════════════════════════════
+
+pub run-range : (π : Policy) (room : ℕ) (cs : List Command) → Answers InRange π → (fuel : ℕ) (s : State) → LabelsInRange s
+    → LabelsInRange (run π room cs fuel s .state)
+run-range π room cs answers fuel s h =
+    let anything : ProgramHas (λ n. Unit) cs =
+    record { pushed = λ z n e. tt; branched = λ z n e. tt; following = λ z c e. tt } in
+    run-holds (λ n. Unit) InRange (λ z. tt) cs anything π answers room fuel s h
+
+-- the standard policy's answers are in range
+abbrev InRangeVerdict : Verdict → Type 0
+InRangeVerdict denied = Unit
+InRangeVerdict (allowed p r) = InRange p × InRange r
+
+bottom-range : InRange bottom
+bottom-range = omega arith
+
+input-range : (i : Input) → InputHas InRange i → InRange (labelOf i)
+input-range (present l) h = h
+input-range missing h = bottom-range
+
+verdict-range : (b : Bool) (p r : ℕ) → InRange p → InRange r → InRangeVerdict (allowedIf b p r)
+verdict-range true p r hp hr = (hp, hr)
+verdict-range false p r hp hr = tt
+
+-- whatever a table builds from labels in range by joins is in range
+ruleset ranges = (join-range, bottom-range)
+
+rule-range : (c : Opcode) (p l1 l2 l3 : ℕ) → InRange p → InRange l1 → InRange l2 → InRange l3
+    → InRangeVerdict (rule c p l1 l2 l3)
+rule-range add p l1 l2 l3 hp h1 h2 h3 = (search ranges, search ranges)
+rule-range sub p l1 l2 l3 hp h1 h2 h3 = (search ranges, search ranges)
+rule-range pop p l1 l2 l3 hp h1 h2 h3 = (search ranges, search ranges)
+rule-range output p l1 l2 l3 hp h1 h2 h3 = (search ranges, search ranges)
+rule-range push p l1 l2 l3 hp h1 h2 h3 = (search ranges, search ranges)
+rule-range load p l1 l2 l3 hp h1 h2 h3 = (search ranges, search ranges)
+rule-range store p l1 l2 l3 hp h1 h2 h3 = search (ranges, verdict-range)
+rule-range jump p l1 l2 l3 hp h1 h2 h3 = (search ranges, search ranges)
+rule-range bnz p l1 l2 l3 hp h1 h2 h3 = (search ranges, search ranges)
+rule-range call p l1 l2 l3 hp h1 h2 h3 = (search ranges, search ranges)
+rule-range ret p l1 l2 l3 hp h1 h2 h3 = (search ranges, search ranges)
+
+pub standard-range : Answers InRange standard
+unfolding standard
+standard-range k p r h e =
+    let g : InRangeVerdict (standard k) =
+    rule-range (k .opcode) (k .pc) _ _ _ (h .pc)
+    (input-range (k .input1) (h .input1)) (input-range (k .input2) (h .input2)) (input-range (k .input3) (h .input3)) in
+    rw e at g
+
+-- ════════════════════════════════════════════════════════════════════════════════════════════
+-- Numbers of 64 bits
+-- ════════════════════════════════════════════════════════════════════════════════════════════
+
+place-lt : (cs : List Command) (i : ℕ) (c : Command) → CommandAt cs (pos i) c → i < length cs
+place-lt [] i c e = let z : _≡_ {A = ℕ} 0 1 = cc in absurd (omega arith)
+place-lt (d ∷ cs) zero c e = omega arith
+place-lt (d ∷ cs) (suc i) c e = let h : i < length cs = place-lt cs i c e in omega arith
+
+sum-signed : (i : ℕ) (n : ℤ) → i < 2 ^ 62 → Signed 63 n → Signed 64 (pos i +ℤ n)
+sum-signed i (pos b) h g = omega arith
+sum-signed i (negsuc b) h g = go (ltb i (suc b))
+  where
+    go : (t : Bool) → Signed 64 (cond t (negsuc (suc b - suc i)) (pos (i - suc b)))
+    go true = omega arith
+    go false = omega arith
+
+-- a program's operands and places have 64 bits where those of Push have 64, those of Bnz 63, and it is not too long
+pub program-signed : (cs : List Command) → length cs ≤ 2 ^ 62
+    → ((z n : ℤ) → CommandAt cs z (Push n) → Signed 64 n) → ((z n : ℤ) → CommandAt cs z (Bnz n) → Signed 63 n)
+    → ProgramHas (Signed 64) cs
+program-signed cs h pushed branched =
+    record {
+      pushed = pushed;
+      branched = λ z n at. goes z (Bnz n) n at (branched z n at);
+      following = λ z c at. goes z c (pos 1) at (omega arith);
+    }
+  where
+    goes : (z : ℤ) (c : Command) (n : ℤ) → CommandAt cs z c → Signed 63 n → Signed 64 (z +ℤ n)
+    goes (pos i) c n at g = let l : i < length cs = place-lt cs i c at in sum-signed i n (omega arith) g
+    goes (negsuc i) c n at g = absurd at
+
+pub run-numbers : (π : Policy) (room : ℕ) (cs : List Command) → ProgramHas (Signed 64) cs
+    → (fuel : ℕ) (s : State) → NumbersSigned s → NumbersSigned (run π room cs fuel s .state)
+run-numbers π room cs has fuel s h =
+    run-holds (Signed 64) (λ l. Unit) wrap-signed cs has π (λ k p r g e. (tt, tt)) room fuel s h

@@ -1,0 +1,92 @@
+-- A step under the standard rules does to a reader's view what the machine on views does: erasing and stepping commute.
+-- Assumes nothing.
+use mathlib.Core.Path.{_≡_, refl}
+use mathlib.Core.Bool.{Bool, true, false}
+use mathlib.Core.List.{List, map}
+use Prim.Native.Nat.{ℕ}
+use lib.IntN.{ℤ, pos}
+use lib.ListN.{length}
+use lib.Dec.{ltb}
+use Rattle.word.specs.Wrap.{addWrap, subWrap}
+use Rattle.label.specs.Label.{join, flows}
+use Rattle.program.specs.declared.Command.{Command}
+use Rattle.program.specs.declared.Command.the-variants.{Add, Sub, Pop, Output, Push, Load, Store, Jump, Bnz, Call, Ret}
+use Rattle.machine.specs.Atom.{Atom, Entry}
+use Rattle.machine.specs.Rule.{allowedIf, standard}
+use Rattle.machine.specs.State.{State, Stop, outputFull, stackFull}
+use Rattle.machine.specs.Step.{Outcome, stepped, stackLimit, provided, Request, withValue, withValues, withFrame}
+use Rattle.machine.specs.Step.{withCell, decide, consult, request, execute, atom, branch, storing}
+use Rattle.machine.proofs.Request.{At, value-all, values-all, frame-all, cell-all, provided-all}
+use Rattle.machine.proofs.Step.{Gives}
+use Rattle.machine.proofs.Privacy.Seen.{Seen, see, joined, see-one, see-both, see-bottom}
+use Rattle.machine.proofs.Privacy.Erasure.{View, Slot, slot, erase, pull, pulls, unwind, first, second, increment, act}
+use Rattle.machine.proofs.Privacy.Effect.{see-cell, see-stored, view-append, see-line}
+
+-- ════════════════════════════════════════════════════════════════════════════════════════════
+-- What a command needs, and what is seen of it
+-- ════════════════════════════════════════════════════════════════════════════════════════════
+
+module _ (S : ℕ) (c : Command) (s : State) where
+  -- what a request comes to is seen so
+  abbrev Shows : View → Request → Type 0
+  Shows w q = Gives (λ t. erase S t ≡ w) (consult standard c s q)
+
+  value-shows : (v : View) (es : List Entry) (k : Atom → List Entry → Request) (l : Seen → List Slot → View)
+      → ((a : Atom) (rest : List Entry) → Shows (l (see S a) (map (slot S) rest)) (k a rest))
+      → Shows (pull v (map (slot S) es) l) (withValue es k)
+  value-shows v es k l h = value-all (Shows (pull v (map (slot S) es) l)) es k tt (λ a rest e. rw e (h a rest))
+
+  values-shows : (v : View) (es : List Entry) (k : Atom → Atom → List Entry → Request) (l : Seen → Seen → List Slot → View)
+      → ((a b : Atom) (rest : List Entry) → Shows (l (see S a) (see S b) (map (slot S) rest)) (k a b rest))
+      → Shows (pulls v (map (slot S) es) l) (withValues es k)
+  values-shows v es k l h = values-all (Shows (pulls v (map (slot S) es) l)) es k tt (λ a b rest e. rw e (h a b rest))
+
+  frame-shows : (v : View) (es : List Entry) (k : Atom → List Entry → Request) (l : Seen → List Slot → View)
+      → ((a : Atom) (rest : List Entry) → Shows (l (see S a) (map (slot S) rest)) (k a rest))
+      → Shows (unwind v (map (slot S) es) l) (withFrame es k)
+  frame-shows v es k l h = frame-all (Shows (unwind v (map (slot S) es) l)) es k tt (λ a rest e. rw e (h a rest))
+
+  cell-shows : (cells : List Atom) (z : ℤ) (k : ℕ → Atom → Request) (w : View)
+      → ((i : ℕ) (a : Atom) → z ≡ pos i → At cells i a → Shows w (k i a)) → Shows w (withCell cells z k)
+  cell-shows cells z k w h = cell-all (Shows w) cells z k tt h
+
+provided-shows : (S : ℕ) (b : Bool) (x : Stop) (t : State) (w : View)
+    → erase S t ≡ w → Gives (λ t. erase S t ≡ w) (provided b x (stepped t))
+provided-shows S b x t w e = provided-all (Gives (λ t. erase S t ≡ w)) b x (stepped t) (λ f. e) (λ f. tt)
+
+allowed-shows : (S : ℕ) (b : Bool) (p r : ℕ) (k : ℕ → ℕ → Outcome) (w : View)
+    → (b ≡ true → Gives (λ t. erase S t ≡ w) (k p r)) → Gives (λ t. erase S t ≡ w) (decide (allowedIf b p r) k)
+allowed-shows S true p r k w h = h refl
+allowed-shows S false p r k w h = tt
+
+-- ════════════════════════════════════════════════════════════════════════════════════════════
+-- The commands
+-- ════════════════════════════════════════════════════════════════════════════════════════════
+
+pub act-shows : (S room : ℕ) (c : Command) (s : State) → Gives (λ t. erase S t ≡ act c (erase S s)) (execute standard room c s)
+unfolding execute request standard act
+act-shows S room Add s =
+    values-shows S Add s _ (s .stack) _ _ (λ a b rest. rw (see-one S increment (s .pc), see-both S addWrap a b))
+act-shows S room Sub s =
+    values-shows S Sub s _ (s .stack) _ _ (λ a b rest. rw (see-one S increment (s .pc), see-both S subWrap a b))
+act-shows S room Pop s = value-shows S Pop s _ (s .stack) _ _ (λ a rest. rw (see-one S increment (s .pc)))
+act-shows S room Output s =
+    value-shows S Output s _ (s .stack) _ _ (λ a rest.
+    provided-shows S (ltb (length (s .lines)) room) outputFull _ _
+    (rw (see-one S increment (s .pc), view-append, see-line S (joined first a (s .pc)), see-both S first a (s .pc))))
+act-shows S room (Push n) s =
+    provided-shows S (ltb (length (s .stack)) stackLimit) stackFull _ _ (rw (see-one S increment (s .pc), see-bottom S n))
+act-shows S room Load s =
+    value-shows S Load s _ (s .stack) _ _ (λ a rest. cell-shows S Load s (s .memory) (a .number) _ _ (λ i c e at.
+    rw (see-one S increment (s .pc), see-both S second a c, see-cell S a e at)))
+act-shows S room Store s =
+    values-shows S Store s _ (s .stack) _ _ (λ a b rest. cell-shows S Store s (s .memory) (a .number) _ _ (λ i c e at.
+    let effect : ℕ → ℕ → Outcome = λ p r. storing s p rest i (atom (b .number) r) in
+    allowed-shows S (flows (join (a .label) (s .pc .label)) (c .label)) _ _ effect _ (λ f.
+    rw (see-one S increment (s .pc), see-stored S a b (s .pc) e at f))))
+act-shows S room Jump s = value-shows S Jump s _ (s .stack) _ _ (λ a rest. rw (see-both S first a (s .pc)))
+act-shows S room (Bnz n) s =
+    value-shows S (Bnz n) s _ (s .stack) _ _ (λ a rest. rw (see-both S (λ m place. branch m place n) a (s .pc)))
+act-shows S room Call s =
+    values-shows S Call s _ (s .stack) _ _ (λ a b rest. rw (see-one S increment (s .pc), see-both S first a (s .pc)))
+act-shows S room Ret s = frame-shows S Ret s _ (s .stack) _ _ (λ a rest. refl)

@@ -1,0 +1,165 @@
+-- What a reader sees of a state, its view, and the machine on views: each command does to a view what it does to a
+-- state, as far as that is seen.
+-- Assumes nothing.
+use mathlib.Core.List.{List, [], _∷_, _++_, map}
+use Prim.Native.Nat.{ℕ, zero, suc}
+use lib.IntN.{ℤ, pos, negsuc, _+ℤ_}
+use lib.ListN.{set}
+use Rattle.word.specs.Wrap.{addWrap, subWrap}
+use Rattle.label.specs.Label.{bottom}
+use Rattle.program.specs.declared.Command.{Command}
+use Rattle.program.specs.declared.Command.the-variants.{Add, Sub, Pop, Output, Push, Load, Store, Jump, Bnz, Call, Ret}
+use Rattle.machine.specs.Atom.{Entry, value, frame, Line}
+use Rattle.machine.specs.State.{State}
+use Rattle.machine.specs.Step.{atom, branch}
+use Rattle.machine.specs.Claim.{view}
+use Rattle.machine.proofs.Privacy.Seen.{Seen, shown, unseen, see, one, both}
+
+-- a stack entry: a value or a return frame
+pub data Slot : Type 0 where
+  holds : Seen → Slot
+  returns : Seen → Slot
+
+pub record View : Type 0 where
+  pub pc : Seen
+  pub stack : List Slot
+  pub memory : List Seen
+  pub lines : List Line
+
+abbrev pub slot : ℕ → Entry → Slot
+slot S (value a) = holds (see S a)
+slot S (frame a) = returns (see S a)
+
+-- what a reader of S sees of a state, entry for entry and cell for cell
+abbrev pub erase : ℕ → State → View
+erase S s =
+    record { pc = see S (s .pc); stack = map (slot S) (s .stack); memory = map (see S) (s .memory); lines = view S (s .lines) }
+
+-- ════════════════════════════════════════════════════════════════════════════════════════════
+-- The commands on a view. Where a command lacks something the view stays
+-- ════════════════════════════════════════════════════════════════════════════════════════════
+
+-- a value on top
+abbrev pub pull : View → List Slot → (Seen → List Slot → View) → View
+pull v [] k = v
+pull v (holds x ∷ rest) k = k x rest
+pull v (returns x ∷ rest) k = v
+
+-- two values on top
+abbrev pub pulls : View → List Slot → (Seen → Seen → List Slot → View) → View
+pulls v es k = pull v es (λ x below. pull v below (λ y rest. k x y rest))
+
+-- a frame on top
+abbrev pub unwind : View → List Slot → (Seen → List Slot → View) → View
+unwind v [] k = v
+unwind v (holds x ∷ rest) k = v
+unwind v (returns x ∷ rest) k = k x rest
+
+-- the cell at an address, if the address is seen
+abbrev pub element : List Seen → ℕ → Seen
+element [] i = unseen
+element (x ∷ cells) zero = x
+element (x ∷ cells) (suc i) = element cells i
+
+abbrev pub cellAt : List Seen → ℤ → Seen
+cellAt cells (pos i) = element cells i
+cellAt cells (negsuc i) = unseen
+
+abbrev pub cell : List Seen → Seen → Seen
+cell cells (shown a) = cellAt cells (a .number)
+cell cells unseen = unseen
+
+-- the cells after a Store at an address; at one that is not seen nothing seen changes
+abbrev pub changedAt : List Seen → ℤ → Seen → List Seen
+changedAt cells (pos i) x = set cells i x
+changedAt cells (negsuc i) x = cells
+
+abbrev pub changed : List Seen → Seen → Seen → List Seen
+changed cells (shown a) x = changedAt cells (a .number) x
+changed cells unseen x = cells
+
+-- the line that is written, if it is seen
+abbrev pub written : Seen → List Line
+written (shown a) = record { number = a .number; label = a .label } ∷ []
+written unseen = []
+
+abbrev pub first : ℤ → ℤ → ℤ
+first m n = m
+
+abbrev pub second : ℤ → ℤ → ℤ
+second m n = n
+
+abbrev pub increment : ℤ → ℤ
+increment n = n +ℤ pos 1
+
+-- the next place
+abbrev pub following : Seen → Seen
+following p = one increment p
+
+-- another place and stack
+abbrev pub moveTo : View → Seen → List Slot → View
+moveTo v p stack = record { pc = p; stack = stack; memory = v .memory; lines = v .lines }
+
+abbrev pub onward : View → List Slot → View
+onward v stack = moveTo v (following (v .pc)) stack
+
+-- Store's effect, with the address and what it stores; Output's, with its line
+abbrev pub storeTo : View → List Slot → Seen → Seen → View
+storeTo v stack x y = record { pc = following (v .pc); stack = stack; memory = changed (v .memory) x y; lines = v .lines }
+
+abbrev pub print : View → List Slot → Seen → View
+print v stack x = record { pc = following (v .pc); stack = stack; memory = v .memory; lines = v .lines ++ written x }
+
+unfoldable pub act : Command → View → View
+act Add v = pulls v (v .stack) (λ x y rest. onward v (holds (both addWrap x y) ∷ rest))
+act Sub v = pulls v (v .stack) (λ x y rest. onward v (holds (both subWrap x y) ∷ rest))
+act Pop v = pull v (v .stack) (λ x rest. onward v rest)
+act Output v =
+    pull v (v .stack) (λ x rest. print v rest (both first x (v .pc)))
+act (Push n) v = onward v (holds (shown (atom n bottom)) ∷ v .stack)
+act Load v = pull v (v .stack) (λ x rest. onward v (holds (both second x (cell (v .memory) x)) ∷ rest))
+act Store v =
+    pulls v (v .stack) (λ x y rest. storeTo v rest (both first x (v .pc)) (both first (both second x y) (v .pc)))
+act Jump v = pull v (v .stack) (λ x rest. moveTo v (both first x (v .pc)) rest)
+act (Bnz n) v = pull v (v .stack) (λ x rest. moveTo v (both (λ m place. branch m place n) x (v .pc)) rest)
+act Call v =
+    pulls v (v .stack) (λ x y rest. moveTo v (both first x (v .pc)) (holds y ∷ returns (following (v .pc)) ∷ rest))
+act Ret v = unwind v (v .stack) (λ x rest. moveTo v x rest)
+
+-- ════════════════════════════════════════════════════════════════════════════════════════════
+-- Runs on views. While the place is not seen, neither is the stack above the topmost frame that is seen
+-- ════════════════════════════════════════════════════════════════════════════════════════════
+
+abbrev pub cut : List Slot → List Slot
+cut [] = []
+cut (holds x ∷ rest) = cut rest
+cut (returns (shown a) ∷ rest) = returns (shown a) ∷ rest
+cut (returns unseen ∷ rest) = cut rest
+
+abbrev pub cutAt : Seen → List Slot → List Slot
+cutAt (shown p) es = es
+cutAt unseen es = cut es
+
+abbrev pub trim : View → View
+trim v = record { pc = v .pc; stack = cutAt (v .pc) (v .stack); memory = v .memory; lines = v .lines }
+
+abbrev pub actElement : List Command → ℕ → View → View
+actElement [] i v = v
+actElement (c ∷ cs) zero v = act c v
+actElement (c ∷ cs) (suc i) v = actElement cs i v
+
+abbrev pub actAt : List Command → ℤ → View → View
+actAt cs (pos i) v = actElement cs i v
+actAt cs (negsuc i) v = v
+
+-- the command at a place that is seen; otherwise all that can be seen is the return to a frame
+abbrev pub actHere : List Command → Seen → View → View
+actHere cs (shown p) v = actAt cs (p .number) v
+actHere cs unseen v = act Ret v
+
+unfoldable pub move : List Command → View → View
+move cs v = trim (actHere cs (v .pc) v)
+
+abbrev pub moves : List Command → ℕ → View → View
+moves cs zero v = v
+moves cs (suc n) v = moves cs n (move cs v)

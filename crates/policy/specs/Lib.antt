@@ -1,0 +1,2 @@
+pub mod Expression
+pub mod Evaluate

@@ -1,0 +1,1 @@
+// Rule tables. Read in specs/: Expression, Evaluate.
