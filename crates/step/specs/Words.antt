@@ -5,6 +5,7 @@ use mathlib.Core.List.{List}
 use lib.IntN.{ℤ, pos, negsuc}
 use lib.ListN.{getD, set}
 use lib.Dec.{ltb, leb, eqb}
+use Rattle.word.specs.Wrap.{addWrap}
 use Rattle.label.specs.Word.{lowLabel}
 use Rattle.step.specs.declared.Machine.{Machine}
 use Rattle.step.specs.declared.Slot.{Slot}
@@ -36,6 +37,9 @@ dropped m = choose (ltb 0 (m .depth)) (machine (m .pc .0) (m .label .0) (m .dept
 
 unfoldable pub gone : Machine → ℤ → ℕ → Machine
 gone m pc label = machine pc label (m .depth) (m .lines)
+
+unfoldable pub following : Machine → ℕ → Machine
+following m label = gone m (addWrap (m .pc .0) (pos 1)) label
 
 unfoldable pub printed : Machine → ℕ → Machine
 printed m room = choose (ltb (m .lines) room) (machine (m .pc .0) (m .label .0) (m .depth) (m .lines + 1)) m

@@ -3,7 +3,7 @@
 use label::Label;
 use word::kind::Pc;
 ghost use mathlib.Core.Path.{_≡_};
-ghost use Rattle.step.specs.Words.{started, pushed, pushedStack, dropped, gone, printed, slotAt};
+ghost use Rattle.step.specs.Words.{started, pushed, pushedStack, dropped, gone, following, printed, slotAt};
 
 // The machine record: the place, its label, how many entries the stack has and how many lines are written.
 pub struct Machine {
@@ -60,6 +60,13 @@ impl Machine {
         self.pc = pc;
         self.label = label;
         self
+    }
+
+    // At the next place.
+    pub fn following(self, label: Label) -> Machine
+        ensures { λ r. ⌜ r ≡ following self (label .0) ⌝ }
+    {
+        self.goto(self.pc.offset(1), label)
     }
 
     // One line more, if there is room for it.

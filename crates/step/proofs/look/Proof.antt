@@ -49,8 +49,16 @@ returns-2 c =
     let a3 = c .before .before in
     let a2 = a3 .before in
     let a1 = a2 .before in
-    rw (lt-leb _ _ (a1 .before .if1 .left), back-ok (a2 .at2 .result) (a2 .at2 .ok), c .before .low .ensures, back-ok (a3 .at3 .result) (a3 .at3 .ok),
-    a3 .at3 .ensures, a2 .at2 .ensures, ← a1 .at .ensures, kind-value (a1 .at .result) (a1 .at .ok) (c .if2 .taken))
+    rw (
+      lt-leb _ _ (a1 .before .if1 .left),
+      back-ok (a2 .at2 .result) (a2 .at2 .ok),
+      c .before .low .ensures,
+      back-ok (a3 .at3 .result) (a3 .at3 .ok),
+      a3 .at3 .ensures,
+      a2 .at2 .ensures,
+      ← a1 .at .ensures,
+      kind-value (a1 .at .result) (a1 .at .ok) (c .if2 .taken),
+    )
 
 returns-3 : tie.Need-returns-3
 unfolding slotAt entryAt
@@ -58,8 +66,16 @@ returns-3 c =
     let a3 = c .before .before in
     let a2 = a3 .before in
     let a1 = a2 .before in
-    rw (lt-leb _ _ (a1 .before .if1 .left), back-ok (a2 .at2 .result) (a2 .at2 .ok), c .before .low .ensures, back-ok (a3 .at3 .result) (a3 .at3 .ok),
-    a3 .at3 .ensures, a2 .at2 .ensures, ← a1 .at .ensures, kind-frame (a1 .at .result) (c .if2 .left))
+    rw (
+      lt-leb _ _ (a1 .before .if1 .left),
+      back-ok (a2 .at2 .result) (a2 .at2 .ok),
+      c .before .low .ensures,
+      back-ok (a3 .at3 .result) (a3 .at3 .ok),
+      a3 .at3 .ensures,
+      a2 .at2 .ensures,
+      ← a1 .at .ensures,
+      kind-frame (a1 .at .result) (c .if2 .left),
+    )
 
 pub look-spec : {M : Type 1} → statement M
 look-spec =

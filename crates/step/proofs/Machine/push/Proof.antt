@@ -43,10 +43,19 @@ returns c =
     let w = c .before .before in
     let p2 = w .before .before .before in
     let p1 = p2 .before .before .before in
-    let s = p1 .before .before .before in
-    (rw (lt-ltb _ _ (p1 .before .before .if1 .taken)),
-    rw (lt-ltb _ _ (p1 .before .before .if1 .taken), c .before .put3 .ensures, p2 .put2 .ensures, p1 .put .ensures,
-    back {z = s .args .kind} (s .fits .kind), back {z = s .args .number} (s .fits .number), back-ok (w .word .result) (w .word .ok), w .word .ensures))
+    let s = p1 .before .before .before in (
+      rw (lt-ltb _ _ (p1 .before .before .if1 .taken)),
+      rw (
+        lt-ltb _ _ (p1 .before .before .if1 .taken),
+        c .before .put3 .ensures,
+        p2 .put2 .ensures,
+        p1 .put .ensures,
+        back {z = s .args .kind} (s .fits .kind),
+        back {z = s .args .number} (s .fits .number),
+        back-ok (w .word .result) (w .word .ok),
+        w .word .ensures,
+      ),
+    )
 
 returns-2 : tie.Need-returns-2
 unfolding pushed pushedStack
