@@ -1,6 +1,6 @@
 -- The methods of the machine record, where they change it: the fields computed.
 -- Assumes nothing.
-use mathlib.Core.Path.{_≡_, refl, ap}
+use mathlib.Core.Path.{_≡_}
 use Prim.Native.Nat.{ℕ, suc, _+_, _-_, _<_}
 use native.Mathlib.Omega.{arith}
 use native.Mathlib.Numerals.{add-one}
@@ -15,10 +15,14 @@ pub addWrap-id : (a b : ℤ) → Signed 64 (a +ℤ b) → addWrap a b ≡ a +ℤ
 unfolding addWrap
 addWrap-id a b h = wrap-id (a +ℤ b) h
 
+pub dropped-entry : (pc : ℤ) (label depth lines : ℕ) → dropped (machine pc label (suc depth) lines) ≡ machine pc label depth lines
+unfolding dropped
+dropped-entry pc label depth lines =
+    let e : suc depth - 1 ≡ depth = omega arith in rw (lt-ltb 0 (suc depth) (omega arith), e)
+
 module _ (pc : ℤ) (label depth lines : ℕ) where
-  pub dropped-entry : dropped (machine pc label (suc depth) lines) ≡ machine pc label depth lines
-  unfolding dropped
-  dropped-entry = let e : suc depth - 1 ≡ depth = omega arith in rw (lt-ltb 0 (suc depth) (omega arith), e)
+  pub dropped-entries : dropped (dropped (machine pc label (suc (suc depth)) lines)) ≡ machine pc label depth lines
+  dropped-entries = rw (dropped-entry pc label (suc depth) lines) (dropped-entry pc label depth lines)
 
   pub pushed-entry : depth < 256 → pushed (machine pc label depth lines) ≡ machine pc label (suc depth) lines
   unfolding pushed
