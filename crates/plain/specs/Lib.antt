@@ -2,3 +2,4 @@ pub mod Command
 pub mod Step
 pub mod Loop
 pub mod Start
+pub mod Plain

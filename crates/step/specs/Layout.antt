@@ -1,8 +1,16 @@
 -- How a state of the machine lies in lent words, as document 01 says it.
-use Prim.Native.Nat.{ℕ}
+use Prim.Native.Nat.{ℕ, zero, suc}
+use mathlib.Core.Bool.{Bool, true, false}
 use mathlib.Core.List.{List, [], _∷_, _++_, map}
 use lib.IntN.{ℤ, pos, negsuc}
+use lib.ListN.{length}
+use Rattle.word.specs.Lay.{laid}
+use Rattle.program.specs.declared.Command.{Command}
 use Rattle.machine.specs.Atom.{Atom, Entry, value, frame, Line}
+use Rattle.machine.specs.Rule.{Policy}
+use Rattle.machine.specs.State.{State}
+use Rattle.machine.specs.Step.{Outcome, stopped, stepped}
+use Rattle.machine.specs.Run.{atEnd, step}
 
 -- three words a stack entry: 0 value or 1 frame, number, label
 abbrev pub entryWords : Entry → List ℤ
@@ -37,3 +45,22 @@ lineNumbers lines = map (λ l. l .number) lines
 
 abbrev pub lineLabels : List Line → List ℤ
 lineLabels lines = map (λ l. pos (l .label)) lines
+
+-- ════════════════════════════════════════════════════════════════════════════════════════════
+-- The stack space over a run
+-- ════════════════════════════════════════════════════════════════════════════════════════════
+
+abbrev pub spaceAfter : Outcome → List ℤ → (State → List ℤ) → List ℤ
+spaceAfter (stopped x) space k = space
+spaceAfter (stepped t) space k = k t
+
+abbrev pub spaceUnless : Bool → List ℤ → List ℤ → List ℤ
+spaceUnless true space on = space
+spaceUnless false space on = on
+
+-- after each step the stack's words are laid over the space, so that a dropped entry keeps its content
+unfoldable pub stackAfter : Policy → ℕ → List Command → ℕ → State → List ℤ → List ℤ
+stackAfter π room cs zero s space = space
+stackAfter π room cs (suc fuel) s space =
+    let on : List ℤ = spaceAfter (step π room cs s) space (λ t. stackAfter π room cs fuel t (laid (stackWords (t .stack)) space)) in
+    spaceUnless (atEnd (length cs) (s .pc .number)) space on
