@@ -1,6 +1,6 @@
 -- A command on lent words simulates the machine's command.
 -- Assumes nothing.
-use mathlib.Core.Path.{_≡_}
+use mathlib.Core.Path.{_≡_, refl, ap}
 use mathlib.Core.List.{List}
 use Prim.Native.Nat.{ℕ}
 use lib.IntN.{ℤ, pos, _+ℤ_}
@@ -11,6 +11,8 @@ use Rattle.program.specs.Command.{opcode, codeOf, operand}
 use Rattle.machine.specs.Rule.{standard}
 use Rattle.machine.specs.State.{State}
 use Rattle.machine.specs.Step.{execute}
+use Rattle.machine.specs.Stopped.{CommandAt}
+use Rattle.machine.specs.Holds.{ProgramHas}
 use Rattle.step.specs.declared.Machine.{Machine}
 use Rattle.plain.specs.Step.{Lent, stepOf}
 use Rattle.plain.proofs.Link.Represents.{Represents, Sound, Simulates}
@@ -18,10 +20,14 @@ use Rattle.plain.proofs.Link.Carried.{machineOf, machine-is}
 use Rattle.plain.proofs.Link.Command.{add-simulates, sub-simulates, pop-simulates, output-simulates, push-simulates, load-simulates}
 use Rattle.plain.proofs.Link.Command.{store-simulates, jump-simulates, bnz-simulates, call-simulates, ret-simulates}
 
+-- where a Bnz leads has 64 bits
+abbrev Leads : Command → State → Type 0
+Leads c s = (n : ℤ) → c ≡ Bnz n → Signed 64 (s .pc .number +ℤ n)
+
 -- of the record that holds the state
 module _ {room : ℕ} {numbers₀ marks₀ : List ℤ} {s : State} {l : Lent} (r : Represents numbers₀ marks₀ s (machineOf s) l)
     (h : Sound room numbers₀ marks₀ s l) (on : Signed 64 (s .pc .number +ℤ pos 1)) where
-  command-simulates : (c : Command) → Signed 64 (s .pc .number +ℤ operand c)
+  command-simulates : (c : Command) → Leads c s
       → Simulates numbers₀ marks₀ (machineOf s) l (execute standard room c s) (stepOf room (codeOf (opcode c)) (operand c) (machineOf s) l)
   unfolding stepOf
   command-simulates Add to = add-simulates r h on
@@ -32,15 +38,26 @@ module _ {room : ℕ} {numbers₀ marks₀ : List ℤ} {s : State} {l : Lent} (r
   command-simulates Load to = load-simulates r h on
   command-simulates Store to = store-simulates r h on
   command-simulates Jump to = jump-simulates r h on
-  command-simulates (Bnz n) to = bnz-simulates r h on n to
+  command-simulates (Bnz n) to = bnz-simulates r h on n (to n refl)
   command-simulates Call to = call-simulates r h on
   command-simulates Ret to = ret-simulates r h on
 
-pub simulate : (room : ℕ) (numbers₀ marks₀ : List ℤ) (c : Command) (s : State) (m : Machine) (l : Lent)
-    → Represents numbers₀ marks₀ s m l → Sound room numbers₀ marks₀ s l
-    → Signed 64 (s .pc .number +ℤ pos 1) → Signed 64 (s .pc .number +ℤ operand c)
-    → Simulates numbers₀ marks₀ m l (execute standard room c s) (stepOf room (codeOf (opcode c)) (operand c) m l)
-simulate room numbers₀ marks₀ c s m l r h on to =
-    let e : m ≡ machineOf s = machine-is r in
-    let g : Represents numbers₀ marks₀ s (machineOf s) l = rw e at r in
-    rw e (command-simulates g h on c to)
+module _ (room : ℕ) (numbers₀ marks₀ : List ℤ) (c : Command) (s : State) (m : Machine) (l : Lent)
+    (r : Represents numbers₀ marks₀ s m l) (h : Sound room numbers₀ marks₀ s l) where
+  -- what the command on words has to do
+  abbrev pub Done : Type 0
+  Done = Simulates numbers₀ marks₀ m l (execute standard room c s) (stepOf room (codeOf (opcode c)) (operand c) m l)
+
+  leading-simulates : Signed 64 (s .pc .number +ℤ pos 1) → Leads c s → Done
+  leading-simulates on to =
+      let e : m ≡ machineOf s = machine-is r in
+      let g : Represents numbers₀ marks₀ s (machineOf s) l = rw e at r in
+      rw e (command-simulates g h on c to)
+
+  pub simulate : Signed 64 (s .pc .number +ℤ pos 1) → Signed 64 (s .pc .number +ℤ operand c) → Done
+  simulate on to = leading-simulates on (λ n e. rw (ap operand e) at to)
+
+  -- the same of the command at the place of a program: of a Push, whose operand is no distance, nothing is asked
+  pub simulate-at : (cs : List Command) → ProgramHas (Signed 64) cs → CommandAt cs (s .pc .number) c → Done
+  simulate-at cs has found =
+      leading-simulates (has .following (s .pc .number) c found) (λ n e. has .branched (s .pc .number) n (rw e at found))
