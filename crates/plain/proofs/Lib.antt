@@ -2,3 +2,5 @@ pub mod Zero
 pub mod Limits
 pub mod Going
 pub mod Link
+pub mod Whole
+pub mod Accepted

@@ -4,3 +4,4 @@ pub mod Fetching
 pub mod Checking
 pub mod Loading
 pub mod Encoding
+pub mod Words

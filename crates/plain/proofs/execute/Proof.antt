@@ -1,72 +1,86 @@
+-- `plain::execute` meets its contract: refused, nothing is written; accepted, the loop's run is the machine's.
+-- Assumes nothing.
+use native.Mathlib.Omega.{arith}
+use mathlib.Core.Path.{_∙_, sym, ap}
+use denote.Ref.{now}
+use Rattle.step.specs.Words.{started}
+use Rattle.plain.specs.Step.{lent}
+use Rattle.plain.specs.Loop.{loopOf}
+use Rattle.plain.specs.Plain.{Memory, memory}
+use Rattle.plain.proofs.Accepted.{count-few, execute-refused, execute-accepted}
 use borrow.Author.Needs.{needs}
 use Rattle.plain.proofs.execute.Statement.{statement}
 use Rattle.plain.proofs.execute.Tie as tie
-use Rattle.plain.proofs.execute.Reads as reads
-use Rattle.plain.proofs.execute.Lts as lts
-use Rattle.plain.proofs.run.go.Reads as go-reads
-use Rattle.plain.proofs.start.check.Reads as check-reads
-use Rattle.plain.proofs.start.smaller.Reads as smaller-reads
-use Rattle.program.proofs.load.Reads as load-reads
 
--- src/lib.rt:31:9
+-- the lent runs as they came
+abbrev lentMemory : tie.Start → Memory
+lentMemory s =
+    memory (now (s .args .values)) (now (s .args .labels)) (now (s .args .program)) (now (s .args .stack)) (now (s .args .numbers)) (now (s .args .marks))
+
 check-requires : tie.Need-check-requires
 check-requires c κs = search needs
 
--- src/lib.rt:40:26
 enum-known-checked : tie.Need-enum-known-checked
 enum-known-checked c = search needs
 
--- src/lib.rt:41:27
 enum-known-checked-2 : tie.Need-enum-known-checked-2
 enum-known-checked-2 c = search needs
 
--- src/lib.rt:42:13
 load-requires : tie.Need-load-requires
 load-requires c κs = search needs
 
--- src/lib.rt:43:17
 smaller-requires : tie.Need-smaller-requires
 smaller-requires c κs = search needs
 
--- src/lib.rt:44:17
 go-requires : tie.Need-go-requires
-go-requires c κs = ?
+go-requires c κs =
+    let k = c .before .before .before .before .before .before .before .before .before .before .before in
+    let s = k .before .before .before .before .before in
+    count-few (now (s .args .sheet)) (lentMemory s) (s .args .fuel) (λ i. omega (arith, k .before .before .before .before .shared-slice-known .given i))
+    (k .checked2 .given .0 .0) (sym (k .checked2 .given .1) ∙ k .before .before .check .ensures)
 
--- src/lib.rt:19:1
 same-length : tie.Need-same-length
 same-length c = search needs
 
--- src/lib.rt:19:1
 returns : tie.Need-returns
-returns c = ?
+returns c =
+    let s = c .before .before .before .before .before .before in
+    execute-refused (now (s .args .sheet)) (lentMemory s) (s .args .fuel) (c .before .checked .given .0 .0)
+    (sym (c .before .checked .given .1) ∙ c .before .before .before .check .ensures)
 
--- src/lib.rt:19:1
 same-length-2 : tie.Need-same-length-2
 same-length-2 c = search needs
 
--- src/lib.rt:19:1
 same-length-3 : tie.Need-same-length-3
 same-length-3 c = search needs
 
--- src/lib.rt:19:1
 same-length-4 : tie.Need-same-length-4
 same-length-4 c = search needs
 
--- src/lib.rt:19:1
 same-length-5 : tie.Need-same-length-5
 same-length-5 c = search needs
 
--- src/lib.rt:19:1
 same-length-6 : tie.Need-same-length-6
 same-length-6 c = search needs
 
--- src/lib.rt:19:1
 same-length-7 : tie.Need-same-length-7
 same-length-7 c = search needs
 
--- src/lib.rt:19:1
 returns-2 : tie.Need-returns-2
-returns-2 c = ?
+returns-2 c =
+    let g = c .before .before .before .before .before in
+    let small = g .before .before .before .before .before .before .before in
+    let load = small .before .before in
+    let k = load .before .before .before in
+    let s = k .before .before .before .before .before in
+    execute-accepted (now (s .args .sheet)) (lentMemory s) (s .args .fuel) (λ i. omega (arith, k .before .before .before .before .shared-slice-known .given i))
+    (k .checked2 .given .0 .0) (sym (k .checked2 .given .1) ∙ k .before .before .check .ensures)
+    (g .go .result)
+    (lent (g .go .last .1 .1 .1 .1 .0) (g .go .last .1 .1 .1 .1 .1 .0) (g .go .last .1 .1 .1 .1 .1 .1 .0) (g .go .last .1 .1 .1 .1 .1 .1 .1 .0) (g .go .last .1 .1 .1 .1 .1 .1 .1 .1 .0))
+    (load .load .last .1 .0) (load .load .ensures .1)
+    (g .go .ensures
+    ∙ ap (λ n. loopOf (k .checked2 .given .0 .0) n (load .load .last .1 .0) (s .args .fuel) 0 started
+    (lent (now (s .args .stack)) (now (s .args .values)) (now (s .args .labels)) (now (s .args .numbers)) (now (s .args .marks)))) (small .smaller .ensures))
 
 pub execute-spec : {M : Type 1} → statement M
 execute-spec =
