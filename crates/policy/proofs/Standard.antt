@@ -5,13 +5,13 @@ use Rattle.program.specs.Command.{Opcode, add, sub, pop, output, push, load, st
 use Rattle.machine.specs.Rule.{Input, Key, standard}
 use Prim.Native.Nat.{ℕ}
 use Rattle.policy.specs.Token.{tokenOf, tokenAt}
-use Rattle.policy.specs.Read.{readLabel, readCondition, readRule, readRules, table, readTable}
+use Rattle.policy.specs.Read.{readLabel, readCondition, readRuleWith, readRules, table, readTable}
 use Rattle.policy.specs.Write.{writeLabel, writeCondition, writeTable}
 use Rattle.policy.specs.Standard.{standardBytes, standardTable}
 use Rattle.policy.specs.Evaluate.{evaluate}
 
 pub standard-read : readTable standardBytes ≡ table standardTable
-unfolding readTable readRules readRule readCondition readLabel tokenAt tokenOf standardTable
+unfolding readTable readRules readRuleWith readCondition readLabel tokenAt tokenOf standardTable
 standard-read = refl
 
 pub standard-written : writeTable standardTable ≡ standardBytes

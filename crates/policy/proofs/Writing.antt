@@ -10,7 +10,7 @@ use borrow.Author.Tests.{le-leb, le-ltb}
 use Rattle.program.specs.Command.{Opcode, opcodes}
 use Rattle.policy.specs.Expression.{LabelExpr, empty, place, input1, input2, input3, join, Condition, flows, always, both, either, Rule, Table}
 use Rattle.policy.specs.Token.{tokenOf, tokenAt}
-use Rattle.policy.specs.Read.{Read, fault, found, andThen, readTwo, readLabel, readCondition, depthLimit, supplies, hasResult, resultIf, readRule, readRules, ReadTable, table, readTable, tableLimit}
+use Rattle.policy.specs.Read.{Read, fault, found, andThen, readTwo, readLabel, readCondition, depthLimit, supplies, hasResult, resultIf, readRuleWith, readRule, readRules, ReadTable, table, readTable, tableLimit}
 use Rattle.policy.specs.Write.{writeLabel, writeCondition, writeRule, writeTable, labelDepth, conditionDepth, LabelSupplied, ConditionSupplied, ResultWritable, RuleWritable, RulesWritable, TableWritable}
 use Rattle.policy.proofs.Tokens.{tokenAt-drop, drop-next, drop-past}
 
@@ -80,7 +80,7 @@ result-written s false n input3 w at rest e = absurd (let z : _≡_ {A = ℕ} 0 
 result-written s false n (join a b) w at rest e = absurd (let z : _≡_ {A = ℕ} 0 1 = cc in omega arith)
 
 rule-written : (s : List ℕ) (o : Opcode) (r : Rule) → RuleWritable o r → Reads s (readRule o s) r (writeRule r)
-unfolding readRule
+unfolding readRuleWith
 rule-written s o r w at rest e =
     let cs = writeCondition (r .allowed) in
     let ps = writeLabel (r .pc) in

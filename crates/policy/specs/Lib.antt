@@ -4,3 +4,4 @@ pub mod Token
 pub mod Read
 pub mod Write
 pub mod Standard
+pub mod Value

@@ -120,13 +120,17 @@ abbrev pub resultIf : Bool → (supplied : ℕ) → List ℕ → (at : ℕ) → 
 resultIf true n bytes at = readLabel depthLimit n bytes at
 resultIf false n bytes at = emptyFrom (tokenAt bytes at) at
 
--- the rule of a command: three expressions (allowed, place, result)
-unfoldable pub readRule : Opcode → List ℕ → (at : ℕ) → Read Rule
-readRule o bytes at =
-    andThen (readCondition depthLimit (supplies o) bytes at) (λ c at2.
-    andThen (readLabel depthLimit (supplies o) bytes at2) (λ p at3.
-    andThen (resultIf (hasResult o) (supplies o) bytes at3) (λ r end.
+-- a rule: three expressions (allowed, place, result)
+unfoldable pub readRuleWith : (supplied : ℕ) (result : Bool) → List ℕ → (at : ℕ) → Read Rule
+readRuleWith n has bytes at =
+    andThen (readCondition depthLimit n bytes at) (λ c at2.
+    andThen (readLabel depthLimit n bytes at2) (λ p at3.
+    andThen (resultIf has n bytes at3) (λ r end.
     found (record { allowed = c; pc = p; result = r }) end)))
+
+-- the rule of a command
+abbrev pub readRule : Opcode → List ℕ → (at : ℕ) → Read Rule
+readRule o bytes at = readRuleWith (supplies o) (hasResult o) bytes at
 
 -- the rules of commands in order
 unfoldable pub readRules : List Opcode → List ℕ → (at : ℕ) → Read Table
