@@ -7,15 +7,15 @@ use Prim.Native.Nat.{ℕ, zero, suc, _+_, _-_, _<_, _≤_}
 use native.Mathlib.Omega.{arith}
 use lib.ListN.{length, getD}
 use Rattle.machine.specs.Rule.{Key}
-use Rattle.policy.specs.declared.Token.{Token}
-use Rattle.policy.specs.declared.Token.the-variants as Token
-use Rattle.policy.specs.declared.Test.{Test}
-use Rattle.policy.specs.declared.Test.the-variants as Test
-use Rattle.policy.specs.declared.TwoLabels.{TwoLabels}
-use Rattle.policy.specs.declared.ConditionRead.{ConditionRead}
-use Rattle.policy.specs.declared.ConditionRead.the-variants as ConditionRead
-use Rattle.policy.specs.declared.TwoConditions.{TwoConditions}
-use Rattle.policy.specs.declared.TwoConditions.the-variants as TwoConditions
+use Rattle.policy.specs.declared.expression.Token.{Token}
+use Rattle.policy.specs.declared.expression.Token.the-variants as Token
+use Rattle.policy.specs.declared.expression.Test.{Test}
+use Rattle.policy.specs.declared.expression.Test.the-variants as Test
+use Rattle.policy.specs.declared.expression.TwoLabels.{TwoLabels}
+use Rattle.policy.specs.declared.expression.ConditionRead.{ConditionRead}
+use Rattle.policy.specs.declared.expression.ConditionRead.the-variants as ConditionRead
+use Rattle.policy.specs.declared.expression.TwoConditions.{TwoConditions}
+use Rattle.policy.specs.declared.expression.TwoConditions.the-variants as TwoConditions
 use Rattle.policy.specs.Expression.{LabelExpr, Condition}
 use Rattle.policy.specs.Expression as Expression
 use Rattle.policy.specs.Evaluate.{evalCondition}

@@ -11,14 +11,14 @@ use Rattle.label.specs.declared.Label.{Label}
 use Rattle.program.specs.Command.{Opcode}
 use Rattle.machine.specs.Rule.{Key}
 use Rattle.policy.specs.declared.Labels.{Labels}
-use Rattle.policy.specs.declared.Token.{Token}
-use Rattle.policy.specs.declared.Token.the-variants as Token
-use Rattle.policy.specs.declared.Leaf.{Leaf}
-use Rattle.policy.specs.declared.Leaf.the-variants as Leaf
-use Rattle.policy.specs.declared.LabelRead.{LabelRead}
-use Rattle.policy.specs.declared.LabelRead.the-variants as LabelRead
-use Rattle.policy.specs.declared.TwoLabels.{TwoLabels}
-use Rattle.policy.specs.declared.TwoLabels.the-variants as TwoLabels
+use Rattle.policy.specs.declared.expression.Token.{Token}
+use Rattle.policy.specs.declared.expression.Token.the-variants as Token
+use Rattle.policy.specs.declared.expression.Leaf.{Leaf}
+use Rattle.policy.specs.declared.expression.Leaf.the-variants as Leaf
+use Rattle.policy.specs.declared.expression.LabelRead.{LabelRead}
+use Rattle.policy.specs.declared.expression.LabelRead.the-variants as LabelRead
+use Rattle.policy.specs.declared.expression.TwoLabels.{TwoLabels}
+use Rattle.policy.specs.declared.expression.TwoLabels.the-variants as TwoLabels
 use Rattle.policy.specs.Expression.{LabelExpr}
 use Rattle.policy.specs.Expression as Expression
 use Rattle.policy.specs.Token.{tokenOf}

@@ -10,8 +10,8 @@ use mathlib.Core.Option.{none, some}
 use mathlib.Core.Bool.{Bool, true, false}
 use lib.Dec.{leb}
 use borrow.Author.Tests.{leb-true}
-use Rattle.policy.specs.declared.Token.{Token}
-use Rattle.policy.specs.declared.Token.the-variants.{Nothing}
+use Rattle.policy.specs.declared.expression.Token.{Token}
+use Rattle.policy.specs.declared.expression.Token.the-variants.{Nothing}
 use Rattle.policy.specs.Token.{tokens, orNothing, tokenIf, tokenOf, tokenAt}
 
 -- a byte that is none of the ten stands for nothing
@@ -43,7 +43,7 @@ tokenOf-other b h0 h1 h2 h3 h4 h5 h6 h7 h8 h9 = by-test (leb 0x10 b) refl
         (past 0x14 b (past 0x13 b (past 0x12 b (past 0x11 b (past 0x10 b (leb-true 0x10 b e) h0) h1) h2) h3) h4) h5) h6) h7) h8) h9))
 
 -- the byte at an offset is the first byte from there on
-getElem-drop : (s : List ℕ) (at b : ℕ) (rest : List ℕ) → drop at s ≡ b ∷ rest → getElem? s at ≡ some b
+pub getElem-drop : {A : Type 0} (s : List A) (at : ℕ) (b : A) (rest : List A) → drop at s ≡ b ∷ rest → getElem? s at ≡ some b
 getElem-drop [] zero b rest e = absurd (let z : _≡_ {A = ℕ} 0 1 = cc in omega arith)
 getElem-drop [] (suc at) b rest e = absurd (let z : _≡_ {A = ℕ} 0 1 = cc in omega arith)
 getElem-drop (x ∷ s) zero b rest e = let d : x ≡ b = cc in ap some d
@@ -61,12 +61,12 @@ pub drop-past : (s : List ℕ) (at : ℕ) (xs rest : List ℕ) → drop at s ≡
 drop-past s at xs rest e = sym (drop-drop (length xs) at s) ∙ ap (drop (length xs)) e ∙ drop-append-seam xs rest
 
 -- the byte at an offset within, and beyond
-getElem-getD : (s : List ℕ) (at : ℕ) → at < length s → getElem? s at ≡ some (getD s at 0)
+pub getElem-getD : (s : List ℕ) (at : ℕ) → at < length s → getElem? s at ≡ some (getD s at 0)
 getElem-getD [] at h = absurd (omega arith)
 getElem-getD (x ∷ s) zero h = refl
 getElem-getD (x ∷ s) (suc at) h = getElem-getD s at (omega arith)
 
-getElem-beyond : (s : List ℕ) (at : ℕ) → length s ≤ at → getElem? s at ≡ none
+pub getElem-beyond : (s : List ℕ) (at : ℕ) → length s ≤ at → getElem? s at ≡ none
 getElem-beyond [] at h = refl
 getElem-beyond (x ∷ s) zero h = absurd (omega arith)
 getElem-beyond (x ∷ s) (suc at) h = getElem-beyond s at (omega arith)

@@ -12,7 +12,7 @@ use Rattle.policy.specs.Expression.{LabelExpr, empty, place, input1, inp
 use Rattle.policy.specs.Token.{tokenOf, tokenAt}
 use Rattle.policy.specs.Read.{Read, fault, found, andThen, readTwo, readLabel, readCondition, depthLimit, supplies, hasResult, resultIf, readRuleWith, readRule, readRules, ReadTable, table, readTable, tableLimit}
 use Rattle.policy.specs.Write.{writeLabel, writeCondition, writeRule, writeTable, labelDepth, conditionDepth, LabelSupplied, ConditionSupplied, ResultWritable, RuleWritable, RulesWritable, TableWritable}
-use Rattle.policy.proofs.Tokens.{tokenAt-drop, drop-next, drop-past}
+use Rattle.policy.proofs.Tokens.{getElem-drop, tokenAt-drop, drop-next, drop-past}
 
 -- reading bytes wherever something is written gives it, and the offset after it
 abbrev Reads : {A : Type 0} → List ℕ → (ℕ → Read A) → A → List ℕ → Type 0
@@ -72,7 +72,7 @@ condition-written s (either a b) (suc d) n h k at rest e =
 result-written : (s : List ℕ) (b : Bool) (n : ℕ) (r : LabelExpr) → ResultWritable b n r → Reads s (resultIf b n s) r (writeLabel r)
 unfolding writeLabel tokenOf
 result-written s true n r w at rest e = label-written s r depthLimit n (w .0) (w .1) at rest e
-result-written s false n empty w at rest e = rw (tokenAt-drop s at _ _ e)
+result-written s false n empty w at rest e = rw (getElem-drop s at _ _ e)
 result-written s false n place w at rest e = absurd (let z : _≡_ {A = ℕ} 0 1 = cc in omega arith)
 result-written s false n input1 w at rest e = absurd (let z : _≡_ {A = ℕ} 0 1 = cc in omega arith)
 result-written s false n input2 w at rest e = absurd (let z : _≡_ {A = ℕ} 0 1 = cc in omega arith)

@@ -5,3 +5,4 @@ pub mod Read
 pub mod Write
 pub mod Standard
 pub mod Value
+pub mod Ask

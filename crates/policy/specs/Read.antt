@@ -2,13 +2,14 @@
 use Prim.Native.Nat.{ℕ, zero, suc, _+_}
 use mathlib.Core.Bool.{Bool, true, false}
 use mathlib.Core.List.{List, [], _∷_}
-use lib.Dec.{leb, ltb}
-use lib.ListN.{length}
+use mathlib.Core.Option.{Option, none, some}
+use lib.Dec.{leb, ltb, eqb}
+use lib.ListN.{length, getElem?}
 use Rattle.program.specs.declared.Refusal.{Refusal}
 use Rattle.program.specs.Decode.{refusal}
 use Rattle.program.specs.Command.{Opcode, add, sub, pop, output, push, load, store, jump, bnz, call, ret, opcodes}
-use Rattle.policy.specs.declared.Token.{Token}
-use Rattle.policy.specs.declared.Token.the-variants.{Empty, Place, Input1, Input2, Input3, Join, Flows, True, And, Or, Nothing}
+use Rattle.policy.specs.declared.expression.Token.{Token}
+use Rattle.policy.specs.declared.expression.Token.the-variants.{Empty, Place, Input1, Input2, Input3, Join, Flows, True, And, Or, Nothing}
 use Rattle.policy.specs.Expression.{LabelExpr, empty, place, input1, input2, input3, join, Condition, flows, always, both, either, Rule, Table}
 use Rattle.policy.specs.Token.{tokenAt}
 
@@ -102,23 +103,14 @@ hasResult call = true
 hasResult ret = false
 
 -- the byte 10; another one counts as misplaced
-abbrev pub emptyFrom : Token → ℕ → Read LabelExpr
-emptyFrom Empty at = found empty (at + 1)
-emptyFrom Place at = fault at
-emptyFrom Input1 at = fault at
-emptyFrom Input2 at = fault at
-emptyFrom Input3 at = fault at
-emptyFrom Join at = fault at
-emptyFrom Flows at = fault at
-emptyFrom True at = fault at
-emptyFrom And at = fault at
-emptyFrom Or at = fault at
-emptyFrom Nothing at = fault at
+abbrev pub emptyByte : Option ℕ → (at : ℕ) → Read LabelExpr
+emptyByte none at = fault at
+emptyByte (some b) at = readIf (eqb b 0x10) empty at
 
 -- the result of a rule: where the command has none, it must be the byte 10
 abbrev pub resultIf : Bool → (supplied : ℕ) → List ℕ → (at : ℕ) → Read LabelExpr
 resultIf true n bytes at = readLabel depthLimit n bytes at
-resultIf false n bytes at = emptyFrom (tokenAt bytes at) at
+resultIf false n bytes at = emptyByte (getElem? bytes at) at
 
 -- a rule: three expressions (allowed, place, result)
 unfoldable pub readRuleWith : (supplied : ℕ) (result : Bool) → List ℕ → (at : ℕ) → Read Rule
@@ -132,11 +124,14 @@ readRuleWith n has bytes at =
 abbrev pub readRule : Opcode → List ℕ → (at : ℕ) → Read Rule
 readRule o bytes at = readRuleWith (supplies o) (hasResult o) bytes at
 
+abbrev pub prepend : Rule → Read Table → Read Table
+prepend r (fault at) = fault at
+prepend r (found rs end) = found (r ∷ rs) end
+
 -- the rules of commands in order
 unfoldable pub readRules : List Opcode → List ℕ → (at : ℕ) → Read Table
 readRules [] bytes at = found [] at
-readRules (o ∷ os) bytes at =
-    andThen (readRule o bytes at) (λ r next. andThen (readRules os bytes next) (λ rs end. found (r ∷ rs) end))
+readRules (o ∷ os) bytes at = andThen (readRule o bytes at) (λ r next. prepend r (readRules os bytes next))
 
 pub data ReadTable : Type 0 where
   refused : Refusal → ReadTable

@@ -7,20 +7,20 @@ use Rattle.label.specs.Label.{bottom, join, flows}
 use Rattle.program.specs.Command.{Opcode}
 use Rattle.machine.specs.Rule as Rule
 use Rattle.policy.specs.declared.Labels.{Labels}
-use Rattle.policy.specs.declared.Token.{Token}
-use Rattle.policy.specs.declared.Token.the-variants as Token
-use Rattle.policy.specs.declared.Leaf.{Leaf}
-use Rattle.policy.specs.declared.Leaf.the-variants as Leaf
-use Rattle.policy.specs.declared.Test.{Test}
-use Rattle.policy.specs.declared.Test.the-variants as Test
-use Rattle.policy.specs.declared.LabelRead.{LabelRead}
-use Rattle.policy.specs.declared.LabelRead.the-variants as LabelRead
-use Rattle.policy.specs.declared.TwoLabels.{TwoLabels}
-use Rattle.policy.specs.declared.TwoLabels.the-variants as TwoLabels
-use Rattle.policy.specs.declared.ConditionRead.{ConditionRead}
-use Rattle.policy.specs.declared.ConditionRead.the-variants as ConditionRead
-use Rattle.policy.specs.declared.TwoConditions.{TwoConditions}
-use Rattle.policy.specs.declared.TwoConditions.the-variants as TwoConditions
+use Rattle.policy.specs.declared.expression.Token.{Token}
+use Rattle.policy.specs.declared.expression.Token.the-variants as Token
+use Rattle.policy.specs.declared.expression.Leaf.{Leaf}
+use Rattle.policy.specs.declared.expression.Leaf.the-variants as Leaf
+use Rattle.policy.specs.declared.expression.Test.{Test}
+use Rattle.policy.specs.declared.expression.Test.the-variants as Test
+use Rattle.policy.specs.declared.expression.LabelRead.{LabelRead}
+use Rattle.policy.specs.declared.expression.LabelRead.the-variants as LabelRead
+use Rattle.policy.specs.declared.expression.TwoLabels.{TwoLabels}
+use Rattle.policy.specs.declared.expression.TwoLabels.the-variants as TwoLabels
+use Rattle.policy.specs.declared.expression.ConditionRead.{ConditionRead}
+use Rattle.policy.specs.declared.expression.ConditionRead.the-variants as ConditionRead
+use Rattle.policy.specs.declared.expression.TwoConditions.{TwoConditions}
+use Rattle.policy.specs.declared.expression.TwoConditions.the-variants as TwoConditions
 use Rattle.policy.specs.Expression.{LabelExpr, Condition}
 use Rattle.policy.specs.Evaluate.{evalLabel, evalCondition}
 use Rattle.policy.specs.Read.{Read, fault, found}

@@ -1,26 +1,19 @@
 // Rule tables. Read in specs/: Expression, Evaluate; Token, Read for their bytes; Value for what the code reads of them.
-ghost use mathlib.Core.Path.{_≡_};
-ghost use Rattle.program.specs.Command.{Opcode};
-ghost use Rattle.policy.specs.Token.{tokenOf};
-ghost use Rattle.policy.specs.Read.{readLabel, readCondition, readTwo};
-ghost use Rattle.policy.specs.Value.{keyOf, pair, labelRead, twoLabels, conditionRead, twoConditions};
-ghost use Rattle.policy.specs.Value.{leafIf, leafOf, testOf, joinOf, flowsOf, bothOf, eitherOf};
-use label::Label;
+mod expression;
 
-// What a byte of a rule table stands for: an expression or an operator, or nothing.
-enum Token {
-    Empty,
-    Place,
-    Input1,
-    Input2,
-    Input3,
-    Join,
-    Flows,
-    True,
-    And,
-    Or,
-    Nothing,
-}
+ghost use mathlib.Core.Path.{_≡_};
+ghost use Prim.Native.Nat.{_≤_};
+ghost use Rattle.program.specs.Command.{Opcode, opcodeOf};
+ghost use Rattle.machine.specs.Rule.{allowedIf};
+ghost use Rattle.policy.specs.Read.{resultIf, readRuleWith, readTable};
+ghost use Rattle.policy.specs.Value.{keyOf, labelRead};
+ghost use Rattle.policy.specs.Ask.{verdictOf, shapeOf, ruleRead, codeRead, checkAnswer, Readable, ask};
+use expression::ConditionRead;
+use expression::LabelRead;
+use expression::read_condition;
+use expression::read_label;
+use label::Label;
+use program::Refusal;
 
 // The labels that a rule is asked with: P, and L1 to L3, of which those that the command does not supply do not count.
 pub struct Labels {
@@ -30,234 +23,196 @@ pub struct Labels {
     pub input3: Label,
 }
 
-// A byte where a label expression is to stand: an expression by itself, a join of two, or neither.
-enum Leaf {
-    Is(Label),
-    Join,
-    Nothing,
+// What a rule says: not allowed, or allowed with the new place label and the result label.
+pub enum Verdict {
+    Denied,
+    Allowed(Label, Label),
 }
 
-// A byte where a yes/no expression is to stand.
-enum Test {
-    True,
-    Flows,
-    And,
-    Or,
-    Nothing,
+// The answer to a check of a rule table.
+pub enum Checked {
+    Accepted,
+    Refused(Refusal),
 }
 
-// A label expression at an offset: its label and the offset after it, or the offset of the byte at fault.
-enum LabelRead {
-    Is(Label, usize),
+// How many inputs a command supplies, and whether it has a result.
+enum Shape {
+    Of(usize, bool),
+    Unknown,
+}
+
+// A rule at an offset: what it says at the labels and the offset after it, or the offset of the byte at fault.
+enum RuleRead {
+    Is(Verdict, usize),
     Fault(usize),
 }
 
-enum TwoLabels {
-    Are(Label, Label, usize),
-    Fault(usize),
-}
-
-// A yes/no expression at an offset.
-enum ConditionRead {
-    Is(bool, usize),
-    Fault(usize),
-}
-
-enum TwoConditions {
-    Are(bool, bool, usize),
-    Fault(usize),
-}
-
-fn token_of(byte: u8) -> Token
-    ensures { λ r. ⌜ r ≡ tokenOf byte ⌝ }
+fn shape_of(code: u64) -> Shape
+    ensures { λ r. ⌜ r ≡ shapeOf (opcodeOf code) ⌝ }
 {
-    match byte {
-        0x10 => Token::Empty,
-        0x11 => Token::Place,
-        0x12 => Token::Input1,
-        0x13 => Token::Input2,
-        0x14 => Token::Input3,
-        0x15 => Token::Join,
-        0x16 => Token::Flows,
-        0x17 => Token::True,
-        0x18 => Token::And,
-        0x19 => Token::Or,
-        _ => Token::Nothing,
+    match code {
+        1 => Shape::Of(2, true),
+        2 => Shape::Of(2, true),
+        3 => Shape::Of(1, false),
+        4 => Shape::Of(1, true),
+        5 => Shape::Of(0, true),
+        6 => Shape::Of(2, true),
+        7 => Shape::Of(3, true),
+        8 => Shape::Of(1, false),
+        9 => Shape::Of(1, false),
+        10 => Shape::Of(1, true),
+        11 => Shape::Of(1, false),
+        _ => Shape::Unknown,
     }
 }
 
-// An input may be named only where the command supplies it.
-fn input(supplied: bool, label: Label) -> Leaf
-    ensures { λ r. ⌜ r ≡ leafIf supplied label ⌝ }
+fn verdict_if(allowed: bool, place: Label, result: Label) -> Verdict
+    ensures { λ r. ⌜ r ≡ verdictOf (allowedIf allowed (place .0) (result .0)) ⌝ }
 {
-    if supplied {
-        Leaf::Is(label)
+    if allowed {
+        Verdict::Allowed(place, result)
     } else {
-        Leaf::Nothing
+        Verdict::Denied
     }
 }
 
-fn leaf_of(token: Token, supplied: usize, labels: Labels) -> Leaf
-    ensures { λ r. ⌜ r ≡ leafOf token supplied labels ⌝ }
+// The result of a rule: where the command has none, it must be the byte 10.
+fn read_result(bytes: &[u8], at: usize, supplied: usize, result: bool, labels: Labels) -> LabelRead
+    ensures { λ r. ⌜ ((o : Opcode) → r ≡ labelRead (keyOf o supplied labels) (resultIf result supplied (now (bytes .entry)) at)) ⌝ }
 {
-    let place = labels.place;
-    let input1 = labels.input1;
-    let input2 = labels.input2;
-    let input3 = labels.input3;
-    match token {
-        Token::Empty => Leaf::Is(Label(0)),
-        Token::Place => Leaf::Is(place),
-        Token::Input1 => input(1 <= supplied, input1),
-        Token::Input2 => input(2 <= supplied, input2),
-        Token::Input3 => input(3 <= supplied, input3),
-        Token::Join => Leaf::Join,
-        Token::Flows => Leaf::Nothing,
-        Token::True => Leaf::Nothing,
-        Token::And => Leaf::Nothing,
-        Token::Or => Leaf::Nothing,
-        Token::Nothing => Leaf::Nothing,
-    }
-}
-
-fn test_of(token: Token) -> Test
-    ensures { λ r. ⌜ r ≡ testOf token ⌝ }
-{
-    match token {
-        Token::Empty => Test::Nothing,
-        Token::Place => Test::Nothing,
-        Token::Input1 => Test::Nothing,
-        Token::Input2 => Test::Nothing,
-        Token::Input3 => Test::Nothing,
-        Token::Join => Test::Nothing,
-        Token::Flows => Test::Flows,
-        Token::True => Test::True,
-        Token::And => Test::And,
-        Token::Or => Test::Or,
-        Token::Nothing => Test::Nothing,
-    }
-}
-
-// The join of two labels that were read.
-fn joined(two: TwoLabels) -> LabelRead
-    ensures { λ r. ⌜ r ≡ joinOf two ⌝ }
-{
-    match two {
-        TwoLabels::Are(a, b, end) => LabelRead::Is(a.join(b), end),
-        TwoLabels::Fault(at) => LabelRead::Fault(at),
-    }
-}
-
-// The label expression at an offset, at most so deep.
-fn read_label(bytes: &[u8], at: usize, depth: usize, supplied: usize, labels: Labels) -> LabelRead
-    ensures { λ r. ⌜ ((o : Opcode) → r ≡ labelRead (keyOf o supplied labels) (readLabel depth supplied (now (bytes .entry)) at)) ⌝ }
-{
-    if depth == 0 {
-        return LabelRead::Fault(at);
+    if result {
+        return read_label(bytes, at, 8, supplied, labels);
     }
     if bytes.len() <= at {
         return LabelRead::Fault(at);
     }
-    let next = at + 1;
-    let leaf = leaf_of(token_of(bytes[at]), supplied, labels);
-    match leaf {
-        Leaf::Is(label) => LabelRead::Is(label, next),
-        Leaf::Join => joined(two_labels(bytes, next, depth - 1, supplied, labels)),
-        Leaf::Nothing => LabelRead::Fault(at),
+    if bytes[at] == 0x10 {
+        LabelRead::Is(Label(0), at + 1)
+    } else {
+        LabelRead::Fault(at)
     }
 }
 
-// Two label expressions, one after the other.
-fn two_labels(bytes: &[u8], at: usize, depth: usize, supplied: usize, labels: Labels) -> TwoLabels
-    ensures { λ r. ⌜ ((o : Opcode) → r ≡ twoLabels (keyOf o supplied labels) (readTwo (readLabel depth supplied (now (bytes .entry))) pair at)) ⌝ }
+// A rule of a command of a shape: three expressions (allowed, place, result).
+fn read_rule_with(
+    bytes: &[u8],
+    at: usize,
+    supplied: usize,
+    result: bool,
+    labels: Labels,
+) -> RuleRead
+    ensures { λ r. ⌜ ((o : Opcode) → r ≡ ruleRead (keyOf o supplied labels) (readRuleWith supplied result (now (bytes .entry)) at)) ⌝ }
 {
-    let first = read_label(bytes, at, depth, supplied, labels);
-    match first {
-        LabelRead::Fault(fault) => TwoLabels::Fault(fault),
-        LabelRead::Is(a, next) => {
-            let second = read_label(bytes, next, depth, supplied, labels);
-            match second {
-                LabelRead::Fault(fault) => TwoLabels::Fault(fault),
-                LabelRead::Is(b, end) => TwoLabels::Are(a, b, end),
+    let allowed = read_condition(bytes, at, 8, supplied, labels);
+    match allowed {
+        ConditionRead::Fault(fault) => RuleRead::Fault(fault),
+        ConditionRead::Is(yes, at2) => {
+            let place = read_label(bytes, at2, 8, supplied, labels);
+            match place {
+                LabelRead::Fault(fault) => RuleRead::Fault(fault),
+                LabelRead::Is(p, at3) => {
+                    let last = read_result(bytes, at3, supplied, result, labels);
+                    match last {
+                        LabelRead::Fault(fault) => RuleRead::Fault(fault),
+                        LabelRead::Is(l, end) => RuleRead::Is(verdict_if(yes, p, l), end),
+                    }
+                }
             }
         }
     }
 }
 
-// Whether the first of two labels that were read flows to the second.
-fn flowing(two: TwoLabels) -> ConditionRead
-    ensures { λ r. ⌜ r ≡ flowsOf two ⌝ }
+// The rule of the command with a code.
+fn read_rule(bytes: &[u8], at: usize, code: u64, labels: Labels) -> RuleRead
+    ensures { λ r. ⌜ r ≡ codeRead (opcodeOf code) labels (now (bytes .entry)) at ⌝ }
 {
-    match two {
-        TwoLabels::Are(a, b, end) => ConditionRead::Is(a.flows(b), end),
-        TwoLabels::Fault(at) => ConditionRead::Fault(at),
+    let shape = shape_of(code);
+    match shape {
+        Shape::Of(supplied, result) => read_rule_with(bytes, at, supplied, result, labels),
+        Shape::Unknown => RuleRead::Fault(at),
     }
 }
 
-fn both(two: TwoConditions) -> ConditionRead
-    ensures { λ r. ⌜ r ≡ bothOf two ⌝ }
+// Check 6 of document 01 over any bytes. Any labels do, as the verdicts are not looked at.
+pub fn check_table(bytes: &[u8]) -> Checked
+    ensures { λ r. ⌜ r ≡ checkAnswer (readTable (now (bytes .entry))) ⌝ }
 {
-    match two {
-        TwoConditions::Are(a, b, end) => ConditionRead::Is(a && b, end),
-        TwoConditions::Fault(at) => ConditionRead::Fault(at),
+    if 512 < bytes.len() {
+        return Checked::Refused(Refusal {
+            code: 6,
+            position: 512,
+        });
     }
-}
-
-fn either(two: TwoConditions) -> ConditionRead
-    ensures { λ r. ⌜ r ≡ eitherOf two ⌝ }
-{
-    match two {
-        TwoConditions::Are(a, b, end) => ConditionRead::Is(a || b, end),
-        TwoConditions::Fault(at) => ConditionRead::Fault(at),
-    }
-}
-
-// The yes/no expression at an offset, at most so deep.
-fn read_condition(
-    bytes: &[u8],
-    at: usize,
-    depth: usize,
-    supplied: usize,
-    labels: Labels,
-) -> ConditionRead
-    ensures { λ r. ⌜ ((o : Opcode) → r ≡ conditionRead (keyOf o supplied labels) (readCondition depth supplied (now (bytes .entry)) at)) ⌝ }
-{
-    if depth == 0 {
-        return ConditionRead::Fault(at);
-    }
-    if bytes.len() <= at {
-        return ConditionRead::Fault(at);
-    }
-    let next = at + 1;
-    let inner = depth - 1;
-    let test = test_of(token_of(bytes[at]));
-    match test {
-        Test::True => ConditionRead::Is(true, next),
-        Test::Flows => flowing(two_labels(bytes, next, inner, supplied, labels)),
-        Test::And => both(two_conditions(bytes, next, inner, supplied, labels)),
-        Test::Or => either(two_conditions(bytes, next, inner, supplied, labels)),
-        Test::Nothing => ConditionRead::Fault(at),
-    }
-}
-
-// Two yes/no expressions, one after the other.
-fn two_conditions(
-    bytes: &[u8],
-    at: usize,
-    depth: usize,
-    supplied: usize,
-    labels: Labels,
-) -> TwoConditions
-    ensures { λ r. ⌜ ((o : Opcode) → r ≡ twoConditions (keyOf o supplied labels) (readTwo (readCondition depth supplied (now (bytes .entry))) pair at)) ⌝ }
-{
-    let first = read_condition(bytes, at, depth, supplied, labels);
-    match first {
-        ConditionRead::Fault(fault) => TwoConditions::Fault(fault),
-        ConditionRead::Is(a, next) => {
-            let second = read_condition(bytes, next, depth, supplied, labels);
-            match second {
-                ConditionRead::Fault(fault) => TwoConditions::Fault(fault),
-                ConditionRead::Is(b, end) => TwoConditions::Are(a, b, end),
+    let labels = Labels {
+        place: Label(0),
+        input1: Label(0),
+        input2: Label(0),
+        input3: Label(0),
+    };
+    let mut at: usize = 0;
+    let mut i: u64 = 0;
+    while i < 11 {
+        let rule = read_rule(bytes, at, i + 1, labels);
+        match rule {
+            RuleRead::Is(_, next) => {
+                at = next;
+                i += 1;
+            }
+            RuleRead::Fault(fault) => {
+                return Checked::Refused(Refusal {
+                    code: 6,
+                    position: fault,
+                });
             }
         }
+    }
+    if at < bytes.len() {
+        Checked::Refused(Refusal {
+            code: 6,
+            position: at,
+        })
+    } else {
+        Checked::Accepted
+    }
+}
+
+// The rule of a command in bytes that are a table: the rules before it are passed over.
+fn rule_of(bytes: &[u8], code: u64, labels: Labels) -> Verdict
+    requires { ⌜ Readable (readTable (now bytes)) × (1 ≤ code) × (code ≤ 11) ⌝ }
+    ensures { λ r. ⌜ r ≡ verdictOf (ask (readTable (now (bytes .entry))) (opcodeOf code) labels) ⌝ }
+{
+    let mut at: usize = 0;
+    let mut i: u64 = 0;
+    while i + 1 < code {
+        let rule = read_rule(bytes, at, i + 1, labels);
+        match rule {
+            RuleRead::Is(_, next) => {
+                at = next;
+                i += 1;
+            }
+            RuleRead::Fault(_) => return Verdict::Denied,
+        }
+    }
+    let rule = read_rule(bytes, at, code, labels);
+    match rule {
+        RuleRead::Is(verdict, _) => verdict,
+        RuleRead::Fault(_) => Verdict::Denied,
+    }
+}
+
+// What a table says for a command with a code and labels; nothing is allowed by bytes that are no table, or to what is no command.
+pub fn evaluate(bytes: &[u8], code: u64, labels: Labels) -> Verdict
+    ensures { λ r. ⌜ r ≡ verdictOf (ask (readTable (now (bytes .entry))) (opcodeOf code) labels) ⌝ }
+{
+    if code == 0 {
+        return Verdict::Denied;
+    }
+    if 11 < code {
+        return Verdict::Denied;
+    }
+    let checked = check_table(bytes);
+    match checked {
+        Checked::Accepted => rule_of(bytes, code, labels),
+        Checked::Refused(_) => Verdict::Denied,
     }
 }

@@ -1,8 +1,8 @@
--- `policy::flowing` meets its contract.
+-- `policy::expression::flowing` meets its contract.
 -- Assumes nothing.
 use borrow.Author.Needs.{needs}
-use Rattle.policy.proofs.flowing.Statement.{statement}
-use Rattle.policy.proofs.flowing.Tie as tie
+use Rattle.policy.proofs.expression.flowing.Statement.{statement}
+use Rattle.policy.proofs.expression.flowing.Tie as tie
 
 enum-known-two : tie.Need-enum-known-two
 enum-known-two c = search needs

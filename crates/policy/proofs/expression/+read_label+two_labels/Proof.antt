@@ -10,17 +10,17 @@ use borrow.Fn.PlainCycle.{Measures, is, falls, and}
 use Rattle.policy.specs.Read.{readLabel}
 use Rattle.policy.specs.Value.{keyOf, leafOf, joinOf}
 use Rattle.policy.proofs.LabelReading.{label-deep, label-missing, label-first, two-labels-first, two-labels-second, two-labels-both}
-use Rattle.policy.proofs.read_label.Reads as read-label
-use Rattle.policy.proofs.read_label.Kinds as read-label-kinds
-use Rattle.policy.proofs.+read_label+two_labels.Lts-read_label as read-label-lts
-use Rattle.policy.proofs.two_labels.Reads as two-labels
-use Rattle.policy.proofs.two_labels.Kinds as two-labels-kinds
-use Rattle.policy.proofs.+read_label+two_labels.Lts-two_labels as two-labels-lts
-use Rattle.policy.proofs.joined.Reads as joined
-use Rattle.policy.proofs.leaf_of.Reads as leaf-of
-use Rattle.policy.proofs.token_of.Reads as token-of
-use Rattle.policy.proofs.+read_label+two_labels.{statement}
-use Rattle.policy.proofs.+read_label+two_labels.Tie.{close}
+use Rattle.policy.proofs.expression.read_label.Reads as read-label
+use Rattle.policy.proofs.expression.read_label.Kinds as read-label-kinds
+use Rattle.policy.proofs.expression.+read_label+two_labels.Lts-read_label as read-label-lts
+use Rattle.policy.proofs.expression.two_labels.Reads as two-labels
+use Rattle.policy.proofs.expression.two_labels.Kinds as two-labels-kinds
+use Rattle.policy.proofs.expression.+read_label+two_labels.Lts-two_labels as two-labels-lts
+use Rattle.policy.proofs.expression.joined.Reads as joined
+use Rattle.policy.proofs.expression.leaf_of.Reads as leaf-of
+use Rattle.policy.proofs.expression.token_of.Reads as token-of
+use Rattle.policy.proofs.expression.+read_label+two_labels.{statement}
+use Rattle.policy.proofs.expression.+read_label+two_labels.Tie.{close}
 
 -- twice the depth, and one more for two expressions
 abbrev μ-read-label : Measures 1 read-label-kinds.ps ℕ

@@ -1,8 +1,8 @@
--- `policy::input` meets its contract.
+-- `policy::expression::input` meets its contract.
 -- Assumes nothing.
 use borrow.Author.Needs.{needs}
-use Rattle.policy.proofs.input.Statement.{statement}
-use Rattle.policy.proofs.input.Tie as tie
+use Rattle.policy.proofs.expression.input.Statement.{statement}
+use Rattle.policy.proofs.expression.input.Tie as tie
 
 returns : tie.Need-returns
 returns c = rw (c .if1 .taken)

@@ -1,8 +1,8 @@
--- `policy::joined` meets its contract.
+-- `policy::expression::joined` meets its contract.
 -- Assumes nothing.
 use borrow.Author.Needs.{needs}
-use Rattle.policy.proofs.joined.Statement.{statement}
-use Rattle.policy.proofs.joined.Tie as tie
+use Rattle.policy.proofs.expression.joined.Statement.{statement}
+use Rattle.policy.proofs.expression.joined.Tie as tie
 
 enum-known-two : tie.Need-enum-known-two
 enum-known-two c = search needs

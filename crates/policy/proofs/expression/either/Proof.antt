@@ -1,8 +1,8 @@
--- `policy::either` meets its contract.
+-- `policy::expression::either` meets its contract.
 -- Assumes nothing.
 use borrow.Author.Needs.{needs}
-use Rattle.policy.proofs.either.Statement.{statement}
-use Rattle.policy.proofs.either.Tie as tie
+use Rattle.policy.proofs.expression.either.Statement.{statement}
+use Rattle.policy.proofs.expression.either.Tie as tie
 
 enum-known-two : tie.Need-enum-known-two
 enum-known-two c = search needs

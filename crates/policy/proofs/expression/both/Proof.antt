@@ -1,8 +1,8 @@
--- `policy::both` meets its contract.
+-- `policy::expression::both` meets its contract.
 -- Assumes nothing.
 use borrow.Author.Needs.{needs}
-use Rattle.policy.proofs.both.Statement.{statement}
-use Rattle.policy.proofs.both.Tie as tie
+use Rattle.policy.proofs.expression.both.Statement.{statement}
+use Rattle.policy.proofs.expression.both.Tie as tie
 
 enum-known-two : tie.Need-enum-known-two
 enum-known-two c = search needs

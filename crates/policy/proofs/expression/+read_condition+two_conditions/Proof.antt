@@ -10,20 +10,20 @@ use borrow.Fn.PlainCycle.{Measures, is, falls, and}
 use Rattle.policy.specs.Read.{readCondition}
 use Rattle.policy.specs.Value.{keyOf, testOf}
 use Rattle.policy.proofs.ConditionReading.{condition-deep, condition-missing, condition-first, two-conditions-first, two-conditions-second, two-conditions-both}
-use Rattle.policy.proofs.read_condition.Reads as read-condition
-use Rattle.policy.proofs.read_condition.Kinds as read-condition-kinds
-use Rattle.policy.proofs.+read_condition+two_conditions.Lts-read_condition as read-condition-lts
-use Rattle.policy.proofs.two_conditions.Reads as two-conditions
-use Rattle.policy.proofs.two_conditions.Kinds as two-conditions-kinds
-use Rattle.policy.proofs.+read_condition+two_conditions.Lts-two_conditions as two-conditions-lts
-use Rattle.policy.proofs.token_of.Reads as token-of
-use Rattle.policy.proofs.test_of.Reads as test-of
-use Rattle.policy.proofs.two_labels.Reads as two-labels
-use Rattle.policy.proofs.flowing.Reads as flowing
-use Rattle.policy.proofs.both.Reads as both
-use Rattle.policy.proofs.either.Reads as either
-use Rattle.policy.proofs.+read_condition+two_conditions.{statement}
-use Rattle.policy.proofs.+read_condition+two_conditions.Tie.{close}
+use Rattle.policy.proofs.expression.read_condition.Reads as read-condition
+use Rattle.policy.proofs.expression.read_condition.Kinds as read-condition-kinds
+use Rattle.policy.proofs.expression.+read_condition+two_conditions.Lts-read_condition as read-condition-lts
+use Rattle.policy.proofs.expression.two_conditions.Reads as two-conditions
+use Rattle.policy.proofs.expression.two_conditions.Kinds as two-conditions-kinds
+use Rattle.policy.proofs.expression.+read_condition+two_conditions.Lts-two_conditions as two-conditions-lts
+use Rattle.policy.proofs.expression.token_of.Reads as token-of
+use Rattle.policy.proofs.expression.test_of.Reads as test-of
+use Rattle.policy.proofs.expression.two_labels.Reads as two-labels
+use Rattle.policy.proofs.expression.flowing.Reads as flowing
+use Rattle.policy.proofs.expression.both.Reads as both
+use Rattle.policy.proofs.expression.either.Reads as either
+use Rattle.policy.proofs.expression.+read_condition+two_conditions.{statement}
+use Rattle.policy.proofs.expression.+read_condition+two_conditions.Tie.{close}
 
 -- twice the depth, and one more for two expressions
 abbrev μ-read-condition : Measures 1 read-condition-kinds.ps ℕ

@@ -1,9 +1,9 @@
--- `policy::token_of` meets its contract: each arm's byte is its token's, and no other byte is one.
+-- `policy::expression::token_of` meets its contract: each arm's byte is its token's, and no other byte is one.
 -- Assumes nothing.
 use Rattle.policy.specs.Token.{tokenOf}
 use Rattle.policy.proofs.Tokens.{tokenOf-other}
-use Rattle.policy.proofs.token_of.Statement.{statement}
-use Rattle.policy.proofs.token_of.Tie as tie
+use Rattle.policy.proofs.expression.token_of.Statement.{statement}
+use Rattle.policy.proofs.expression.token_of.Tie as tie
 
 returns : tie.Need-returns
 unfolding tokenOf

@@ -1,8 +1,8 @@
--- `policy::leaf_of` meets its contract: by the token.
+-- `policy::expression::leaf_of` meets its contract: by the token.
 -- Assumes nothing.
 use borrow.Author.Needs.{needs}
-use Rattle.policy.proofs.leaf_of.Statement.{statement}
-use Rattle.policy.proofs.leaf_of.Tie as tie
+use Rattle.policy.proofs.expression.leaf_of.Statement.{statement}
+use Rattle.policy.proofs.expression.leaf_of.Tie as tie
 
 enum-told : tie.Need-enum-told
 enum-told c = search needs
