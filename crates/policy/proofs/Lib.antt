@@ -8,4 +8,5 @@ pub mod TableReading
 pub mod Asking
 pub mod Rows
 pub mod RowKeys
+pub mod Hits
 pub mod Readings

@@ -1,7 +1,7 @@
 -- Rows as the code checks them: the key of a row by its labels, and the answer by the row's command, labels and verdict.
 -- Assumes nothing.
 use mathlib.Core.Path.{_≡_, refl, sym, ap, _∙_}
-use mathlib.Core.Bool.{Bool, true, false, _&&_, _||_}
+use mathlib.Core.Bool.{Bool, true, false}
 use mathlib.Core.List.{List}
 use mathlib.Core.Option.{Option, none, some}
 use Prim.Native.Nat.{ℕ}
@@ -20,12 +20,11 @@ use Rattle.policy.specs.declared.Labels.{Labels}
 use Rattle.policy.specs.declared.Shape.the-variants as Shape
 use Rattle.policy.specs.declared.row.Found.{Found}
 use Rattle.policy.specs.declared.row.Found.the-variants as Found
-use Rattle.policy.specs.Expression.{Table}
 use Rattle.policy.specs.Evaluate.{evaluate}
 use Rattle.policy.specs.Read.{supplies, ReadTable, refused, table}
 use Rattle.policy.specs.Value.{inputIf, keyOf}
 use Rattle.policy.specs.Ask.{verdictOf, shapeOf, ask}
-use Rattle.policy.specs.Row.{isMark, emptyRow, inputOf, presentOf, missingIf, labelOption, given, holds, word, rowKey, opcodeNatural, agrees, rowOf, acceptedRow, rowAnswer}
+use Rattle.policy.specs.Row.{isMark, emptyRow, inputOf, presentOf, missingIf, labelOption, given, word, rowKey, agrees, acceptedRow, rowAnswer}
 use Rattle.policy.specs.RowCode.{markIf, inputStored, labelsFrom, rowLabels, verdictAgrees, rowIn}
 
 -- ════════════════════════════════════════════════════════════════════════════════════════════

@@ -3,11 +3,11 @@
 use mathlib.Core.Path.{_≡_, refl, sym, ap, subst, _∙_}
 use mathlib.Core.Bool.{Bool, true, false}
 use mathlib.Core.List.{List, [], _∷_}
-use mathlib.Core.Option.{Option, none, some}
+use mathlib.Core.Option.{some}
 use Prim.Native.Nat.{ℕ, zero, suc, _+_, _<_, _≤_}
 use native.Mathlib.Omega.{arith}
 use native.Mathlib.Numerals.{add-one}
-use lib.Dec.{leb, ltb}
+use lib.Dec.{ltb}
 use lib.ListN.{length, drop, getElem?}
 use borrow.Author.Tests.{lt-ltb, le-ltb, le-leb, lt-leb}
 use Rattle.program.specs.Command.{Opcode, opcodes, opcodeOf}
@@ -20,7 +20,7 @@ use Rattle.policy.specs.declared.RuleRead.{RuleRead}
 use Rattle.policy.specs.declared.RuleRead.the-variants as RuleRead
 use Rattle.policy.specs.Expression.{Rule, Table}
 use Rattle.policy.specs.Evaluate.{evalRule}
-use Rattle.policy.specs.Read.{Read, fault, found, andThen, prepend, supplies, readRule, readRules, ReadTable, refused, table, whole, wholeIf, tableLimit, readTable}
+use Rattle.policy.specs.Read.{Read, fault, found, prepend, supplies, readRule, readRules, whole, wholeIf, tableLimit, readTable}
 use Rattle.policy.specs.Value.{keyOf}
 use Rattle.policy.specs.Ask.{verdictOf, ruleRead, codeRead, checkAnswer}
 

@@ -1,16 +1,16 @@
 -- Writing a rule table as bytes and reading it gives it back.
 -- Assumes nothing.
-use mathlib.Core.Path.{_≡_, refl, sym, ap, _∙_}
+use mathlib.Core.Path.{_≡_, sym, ap, _∙_}
 use mathlib.Core.Bool.{Bool, true, false}
 use mathlib.Core.List.{List, [], _∷_, _++_, append-assoc, append-nil}
-use Prim.Native.Nat.{ℕ, zero, suc, _+_, _<_, _≤_, max}
+use Prim.Native.Nat.{ℕ, zero, suc, _+_, _≤_}
 use native.Mathlib.Omega.{arith}
 use lib.ListN.{length, drop, length-append}
 use borrow.Author.Tests.{le-leb, le-ltb}
 use Rattle.program.specs.Command.{Opcode, opcodes}
 use Rattle.policy.specs.Expression.{LabelExpr, empty, place, input1, input2, input3, join, Condition, flows, always, both, either, Rule, Table}
-use Rattle.policy.specs.Token.{tokenOf, tokenAt}
-use Rattle.policy.specs.Read.{Read, fault, found, andThen, readTwo, readLabel, readCondition, depthLimit, supplies, hasResult, resultIf, readRuleWith, readRule, readRules, ReadTable, table, readTable, tableLimit}
+use Rattle.policy.specs.Token.{tokenOf}
+use Rattle.policy.specs.Read.{Read, found, readTwo, readLabel, readCondition, depthLimit, supplies, hasResult, resultIf, readRuleWith, readRule, readRules, table, readTable, tableLimit}
 use Rattle.policy.specs.Write.{writeLabel, writeCondition, writeRule, writeTable, labelDepth, conditionDepth, LabelSupplied, ConditionSupplied, ResultWritable, RuleWritable, RulesWritable, TableWritable}
 use Rattle.policy.proofs.Tokens.{getElem-drop, tokenAt-drop, drop-next, drop-past}
 

@@ -1,5 +1,6 @@
 -- What the code reads of a rule and of a table, and what a table in bytes says when it is asked.
 use Prim.Native.Nat.{ℕ}
+use mathlib.Core.Path.{_≡_}
 use mathlib.Core.Bool.{Bool}
 use mathlib.Core.List.{List}
 use mathlib.Core.Option.{Option, none, some}
@@ -16,7 +17,7 @@ use Rattle.policy.specs.declared.RuleRead.{RuleRead}
 use Rattle.policy.specs.declared.RuleRead.the-variants as RuleRead
 use Rattle.policy.specs.Expression.{Rule}
 use Rattle.policy.specs.Evaluate.{evalRule, evaluate}
-use Rattle.policy.specs.Read.{Read, fault, found, supplies, hasResult, readRule, ReadTable, refused, table}
+use Rattle.policy.specs.Read.{Read, fault, found, supplies, hasResult, readRuleWith, readRule, ReadTable, refused, table}
 use Rattle.policy.specs.Value.{labelWith, keyOf}
 
 abbrev pub verdictOf : Rules.Verdict → Verdict
@@ -31,6 +32,11 @@ abbrev pub ruleRead : Rules.Key → Read Rule → RuleRead
 ruleRead k (fault at) = RuleRead.Fault at
 ruleRead k (found r next) = RuleRead.Is (verdictOf (evalRule (some r) k)) next
 
+-- a rule at an offset, whichever command asks
+abbrev pub RuleAt : (n : ℕ) (has : Bool) → Labels → List ℕ → (at : ℕ) → RuleRead → Type 0
+RuleAt n has ls bytes at r = (o : Opcode) → r ≡ ruleRead (keyOf o n ls) (readRuleWith n has bytes at)
+
+-- the rule of the command with a code
 abbrev pub codeRead : Option Opcode → Labels → List ℕ → (at : ℕ) → RuleRead
 codeRead none ls bytes at = RuleRead.Fault at
 codeRead (some o) ls bytes at = ruleRead (keyOf o (supplies o) ls) (readRule o bytes at)

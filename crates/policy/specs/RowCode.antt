@@ -11,7 +11,6 @@ use Rattle.label.specs.declared.Stored.the-variants as Stored
 use Rattle.label.specs.Label.{bottom}
 use Rattle.label.specs.Word.{stored}
 use Rattle.program.specs.Command.{Opcode}
-use Rattle.policy.specs.declared.Labels.{Labels}
 use Rattle.policy.specs.declared.Verdict.{Verdict}
 use Rattle.policy.specs.declared.Verdict.the-variants as Verdict
 use Rattle.policy.specs.declared.row.Found.{Found}

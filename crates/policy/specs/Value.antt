@@ -1,6 +1,8 @@
 -- What the code reads of a rule table, which keeps no expressions: the value at given labels, and where the expression ends.
 use Prim.Native.Nat.{ℕ}
+use mathlib.Core.Path.{_≡_}
 use mathlib.Core.Bool.{Bool, true, false, _&&_, _||_}
+use mathlib.Core.List.{List}
 use lib.Dec.{leb}
 use Rattle.label.specs.declared.Label.{Label}
 use Rattle.label.specs.Label.{bottom, join, flows}
@@ -23,7 +25,7 @@ use Rattle.policy.specs.declared.expression.TwoConditions.{TwoConditions
 use Rattle.policy.specs.declared.expression.TwoConditions.the-variants as TwoConditions
 use Rattle.policy.specs.Expression.{LabelExpr, Condition}
 use Rattle.policy.specs.Evaluate.{evalLabel, evalCondition}
-use Rattle.policy.specs.Read.{Read, fault, found}
+use Rattle.policy.specs.Read.{Read, fault, found, readTwo, readLabel, readCondition, resultIf}
 
 abbrev pub labelWith : ℕ → Label
 labelWith l = record { 0 = l }
@@ -62,6 +64,27 @@ twoConditions k (found p next) = TwoConditions.Are (evalCondition k (p .0)) (eva
 
 abbrev pub pair : {A : Type 0} → A → A → A × A
 pair a b = (a, b)
+
+-- ════════════════════════════════════════════════════════════════════════════════════════════
+-- What is read at an offset, whichever command asks: only the inputs that it supplies count
+-- ════════════════════════════════════════════════════════════════════════════════════════════
+
+module _ (depth n : ℕ) (ls : Labels) (bytes : List ℕ) (at : ℕ) where
+  abbrev pub LabelAt : LabelRead → Type 0
+  LabelAt r = (o : Opcode) → r ≡ labelRead (keyOf o n ls) (readLabel depth n bytes at)
+
+  abbrev pub TwoLabelsAt : TwoLabels → Type 0
+  TwoLabelsAt r = (o : Opcode) → r ≡ twoLabels (keyOf o n ls) (readTwo (readLabel depth n bytes) pair at)
+
+  abbrev pub ConditionAt : ConditionRead → Type 0
+  ConditionAt r = (o : Opcode) → r ≡ conditionRead (keyOf o n ls) (readCondition depth n bytes at)
+
+  abbrev pub TwoConditionsAt : TwoConditions → Type 0
+  TwoConditionsAt r = (o : Opcode) → r ≡ twoConditions (keyOf o n ls) (readTwo (readCondition depth n bytes) pair at)
+
+-- the result of a rule
+abbrev pub ResultAt : (has : Bool) (n : ℕ) → Labels → List ℕ → (at : ℕ) → LabelRead → Type 0
+ResultAt has n ls bytes at r = (o : Opcode) → r ≡ labelRead (keyOf o n ls) (resultIf has n bytes at)
 
 -- ════════════════════════════════════════════════════════════════════════════════════════════
 -- A first byte, and the value of what it holds

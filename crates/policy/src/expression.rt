@@ -1,9 +1,7 @@
 // Expressions of rule tables, read from their bytes with their value at given labels. Read in specs/: Expression, Token, Read; Value.
 ghost use mathlib.Core.Path.{_≡_};
-ghost use Rattle.program.specs.Command.{Opcode};
 ghost use Rattle.policy.specs.Token.{tokenOf};
-ghost use Rattle.policy.specs.Read.{readLabel, readCondition, readTwo};
-ghost use Rattle.policy.specs.Value.{keyOf, pair, labelRead, twoLabels, conditionRead, twoConditions};
+ghost use Rattle.policy.specs.Value.{LabelAt, TwoLabelsAt, ConditionAt, TwoConditionsAt};
 ghost use Rattle.policy.specs.Value.{leafIf, leafOf, testOf, joinOf, flowsOf, bothOf, eitherOf};
 use crate::Labels;
 use label::Label;
@@ -148,7 +146,7 @@ pub(crate) fn read_label(
     supplied: usize,
     labels: Labels,
 ) -> LabelRead
-    ensures { λ r. ⌜ ((o : Opcode) → r ≡ labelRead (keyOf o supplied labels) (readLabel depth supplied (now (bytes .entry)) at)) ⌝ }
+    ensures { λ r. ⌜ LabelAt depth supplied labels (now (bytes .entry)) at r ⌝ }
 {
     if depth == 0 {
         return LabelRead::Fault(at);
@@ -167,7 +165,7 @@ pub(crate) fn read_label(
 
 // Two label expressions, one after the other.
 fn two_labels(bytes: &[u8], at: usize, depth: usize, supplied: usize, labels: Labels) -> TwoLabels
-    ensures { λ r. ⌜ ((o : Opcode) → r ≡ twoLabels (keyOf o supplied labels) (readTwo (readLabel depth supplied (now (bytes .entry))) pair at)) ⌝ }
+    ensures { λ r. ⌜ TwoLabelsAt depth supplied labels (now (bytes .entry)) at r ⌝ }
 {
     let first = read_label(bytes, at, depth, supplied, labels);
     match first {
@@ -218,7 +216,7 @@ pub(crate) fn read_condition(
     supplied: usize,
     labels: Labels,
 ) -> ConditionRead
-    ensures { λ r. ⌜ ((o : Opcode) → r ≡ conditionRead (keyOf o supplied labels) (readCondition depth supplied (now (bytes .entry)) at)) ⌝ }
+    ensures { λ r. ⌜ ConditionAt depth supplied labels (now (bytes .entry)) at r ⌝ }
 {
     if depth == 0 {
         return ConditionRead::Fault(at);
@@ -246,7 +244,7 @@ fn two_conditions(
     supplied: usize,
     labels: Labels,
 ) -> TwoConditions
-    ensures { λ r. ⌜ ((o : Opcode) → r ≡ twoConditions (keyOf o supplied labels) (readTwo (readCondition depth supplied (now (bytes .entry))) pair at)) ⌝ }
+    ensures { λ r. ⌜ TwoConditionsAt depth supplied labels (now (bytes .entry)) at r ⌝ }
 {
     let first = read_condition(bytes, at, depth, supplied, labels);
     match first {

@@ -1,14 +1,15 @@
 // Rule tables. Read in specs/: Expression, Evaluate; Token, Read for their bytes; Value, Ask for what the code reads of them; Row for the rule memory.
 mod expression;
 pub mod row;
+pub mod standard_table;
 
 ghost use mathlib.Core.Path.{_≡_};
 ghost use Prim.Native.Nat.{_≤_};
-ghost use Rattle.program.specs.Command.{Opcode, opcodeOf};
+ghost use Rattle.program.specs.Command.{opcodeOf};
 ghost use Rattle.machine.specs.Rule.{allowedIf};
-ghost use Rattle.policy.specs.Read.{resultIf, readRuleWith, readTable};
-ghost use Rattle.policy.specs.Value.{keyOf, labelRead};
-ghost use Rattle.policy.specs.Ask.{verdictOf, shapeOf, ruleRead, codeRead, checkAnswer, Readable, ask};
+ghost use Rattle.policy.specs.Read.{readTable};
+ghost use Rattle.policy.specs.Value.{ResultAt};
+ghost use Rattle.policy.specs.Ask.{verdictOf, shapeOf, RuleAt, codeRead, checkAnswer, Readable, ask};
 use expression::ConditionRead;
 use expression::LabelRead;
 use expression::read_condition;
@@ -79,7 +80,7 @@ fn verdict_if(allowed: bool, place: Label, result: Label) -> Verdict
 
 // The result of a rule: where the command has none, it must be the byte 10.
 fn read_result(bytes: &[u8], at: usize, supplied: usize, result: bool, labels: Labels) -> LabelRead
-    ensures { λ r. ⌜ ((o : Opcode) → r ≡ labelRead (keyOf o supplied labels) (resultIf result supplied (now (bytes .entry)) at)) ⌝ }
+    ensures { λ r. ⌜ ResultAt result supplied labels (now (bytes .entry)) at r ⌝ }
 {
     if result {
         return read_label(bytes, at, 8, supplied, labels);
@@ -102,7 +103,7 @@ fn read_rule_with(
     result: bool,
     labels: Labels,
 ) -> RuleRead
-    ensures { λ r. ⌜ ((o : Opcode) → r ≡ ruleRead (keyOf o supplied labels) (readRuleWith supplied result (now (bytes .entry)) at)) ⌝ }
+    ensures { λ r. ⌜ RuleAt supplied result labels (now (bytes .entry)) at r ⌝ }
 {
     let allowed = read_condition(bytes, at, 8, supplied, labels);
     match allowed {

@@ -1,6 +1,6 @@
 -- The proof of the cycle of calls {read_condition, two_conditions}: the depth falls, and of two expressions at one depth each is read after the pair.
 -- Assumes nothing.
-use mathlib.Core.Path.{_≡_, _∙_, sym, ap, refl}
+use mathlib.Core.Path.{_∙_, sym, ap}
 use Prim.Native.Nat.{ℕ, _+_, _*_, _<_}
 use native.Mathlib.Omega.{arith}
 use denote.Ref.{now}

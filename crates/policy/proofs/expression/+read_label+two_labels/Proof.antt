@@ -1,6 +1,6 @@
 -- The proof of the cycle of calls {read_label, two_labels}: the depth falls, and of two expressions at one depth each is read after the pair.
 -- Assumes nothing.
-use mathlib.Core.Path.{_≡_, _∙_, sym, ap, refl}
+use mathlib.Core.Path.{_∙_, sym, ap}
 use Prim.Native.Nat.{ℕ, _+_, _*_, _<_}
 use native.Mathlib.Omega.{arith}
 use denote.Ref.{now}
@@ -8,7 +8,7 @@ use borrow.Author.Needs.{needs}
 use borrow.Fn.Kinds.{In}
 use borrow.Fn.PlainCycle.{Measures, is, falls, and}
 use Rattle.policy.specs.Read.{readLabel}
-use Rattle.policy.specs.Value.{keyOf, leafOf, joinOf}
+use Rattle.policy.specs.Value.{keyOf, leafOf}
 use Rattle.policy.proofs.LabelReading.{label-deep, label-missing, label-first, two-labels-first, two-labels-second, two-labels-both}
 use Rattle.policy.proofs.expression.read_label.Reads as read-label
 use Rattle.policy.proofs.expression.read_label.Kinds as read-label-kinds
