@@ -1,5 +1,6 @@
 pub mod Tokens
 pub mod Writing
+pub mod Writable
 pub mod Standard
 pub mod LabelReading
 pub mod ConditionReading
