@@ -81,12 +81,24 @@ next s p stack = goto s (atom (s .pc .number +ℤ pos 1) p) stack
 -- Store's effect: the cell at an address
 abbrev pub storing : State → ℕ → List Entry → ℕ → Atom → Outcome
 storing s p stack i a =
-    stepped (record { pc = atom (s .pc .number +ℤ pos 1) p; stack = stack; memory = set (s .memory) i a; lines = s .lines; steps = suc (s .steps) })
+    stepped (record {
+      pc = atom (s .pc .number +ℤ pos 1) p;
+      stack = stack;
+      memory = set (s .memory) i a;
+      lines = s .lines;
+      steps = suc (s .steps);
+    })
 
 -- Output's effect: one line more
 abbrev pub printing : State → ℕ → List Entry → Line → Outcome
 printing s p stack l =
-    stepped (record { pc = atom (s .pc .number +ℤ pos 1) p; stack = stack; memory = s .memory; lines = s .lines ++ (l ∷ []); steps = suc (s .steps) })
+    stepped (record {
+      pc = atom (s .pc .number +ℤ pos 1) p;
+      stack = stack;
+      memory = s .memory;
+      lines = s .lines ++ (l ∷ []);
+      steps = suc (s .steps);
+    })
 
 -- Bnz's target: place + operand if top is not 0
 abbrev pub branch : ℤ → ℤ → ℤ → ℤ
@@ -98,28 +110,51 @@ branch (negsuc n) place operand = place +ℤ operand
 -- The commands
 -- ════════════════════════════════════════════════════════════════════════════════════════════
 
--- `room` is how many lines fit
+-- the input that an atom is
+abbrev pub of : Atom → Input
+of a = present (a .label)
+
+-- what each command comes to; `room` is how many lines fit
 unfoldable pub request : ℕ → Command → State → Request
 request room Add s =
-    withValues (s .stack) (λ a b rest. ask (present (a .label)) (present (b .label)) missing (λ p r. next s p (value (atom (addWrap (a .number) (b .number)) r) ∷ rest)))
+    withValues (s .stack) (λ a b rest.
+    ask (of a) (of b) missing (λ p r. next s p (value (atom (addWrap (a .number) (b .number)) r) ∷ rest)))
 request room Sub s =
-    withValues (s .stack) (λ a b rest. ask (present (a .label)) (present (b .label)) missing (λ p r. next s p (value (atom (subWrap (a .number) (b .number)) r) ∷ rest)))
-request room Pop s = withValue (s .stack) (λ a rest. ask (present (a .label)) missing missing (λ p r. next s p rest))
+    withValues (s .stack) (λ a b rest.
+    ask (of a) (of b) missing (λ p r. next s p (value (atom (subWrap (a .number) (b .number)) r) ∷ rest)))
+request room Pop s =
+    withValue (s .stack) (λ a rest.
+    ask (of a) missing missing (λ p r. next s p rest))
 request room Output s =
-    withValue (s .stack) (λ a rest. ask (present (a .label)) missing missing (λ p r. provided (ltb (length (s .lines)) room) outputFull (printing s p rest (record { number = a .number; label = r }))))
+    withValue (s .stack) (λ a rest.
+    ask (of a) missing missing (λ p r.
+    provided (ltb (length (s .lines)) room) outputFull
+    (printing s p rest (record { number = a .number; label = r }))))
 request room (Push n) s =
-    ask missing missing missing (λ p r. provided (ltb (length (s .stack)) stackLimit) stackFull (next s p (value (atom n r) ∷ s .stack)))
+    ask missing missing missing (λ p r.
+    provided (ltb (length (s .stack)) stackLimit) stackFull
+    (next s p (value (atom n r) ∷ s .stack)))
 request room Load s =
-    withValue (s .stack) (λ a rest. withCell (s .memory) (a .number) (λ i c. ask (present (a .label)) (present (c .label)) missing (λ p r. next s p (value (atom (c .number) r) ∷ rest))))
+    withValue (s .stack) (λ a rest.
+    withCell (s .memory) (a .number) (λ i c.
+    ask (of a) (of c) missing (λ p r. next s p (value (atom (c .number) r) ∷ rest))))
 request room Store s =
-    withValues (s .stack) (λ a b rest. withCell (s .memory) (a .number) (λ i c. ask (present (a .label)) (present (b .label)) (present (c .label)) (λ p r. storing s p rest i (atom (b .number) r))))
-request room Jump s = withValue (s .stack) (λ a rest. ask (present (a .label)) missing missing (λ p r. goto s (atom (a .number) p) rest))
+    withValues (s .stack) (λ a b rest.
+    withCell (s .memory) (a .number) (λ i c.
+    ask (of a) (of b) (of c) (λ p r. storing s p rest i (atom (b .number) r))))
+request room Jump s =
+    withValue (s .stack) (λ a rest.
+    ask (of a) missing missing (λ p r. goto s (atom (a .number) p) rest))
 request room (Bnz n) s =
-    withValue (s .stack) (λ a rest. ask (present (a .label)) missing missing (λ p r. goto s (atom (branch (a .number) (s .pc .number) n) p) rest))
+    withValue (s .stack) (λ a rest.
+    ask (of a) missing missing (λ p r. goto s (atom (branch (a .number) (s .pc .number) n) p) rest))
 request room Call s =
-    withValues (s .stack) (λ a b rest. ask (present (a .label)) missing missing (λ p r. goto s (atom (a .number) p) (value b ∷ frame (atom (s .pc .number +ℤ pos 1) r) ∷ rest)))
+    withValues (s .stack) (λ a b rest.
+    ask (of a) missing missing (λ p r.
+    goto s (atom (a .number) p) (value b ∷ frame (atom (s .pc .number +ℤ pos 1) r) ∷ rest)))
 request room Ret s =
-    withFrame (s .stack) (λ a rest. ask (present (a .label)) missing missing (λ p r. goto s (atom (a .number) p) rest))
+    withFrame (s .stack) (λ a rest.
+    ask (of a) missing missing (λ p r. goto s (atom (a .number) p) rest))
 
 -- the rule's answer decides
 abbrev pub decide : Verdict → (ℕ → ℕ → Outcome) → Outcome
