@@ -26,7 +26,11 @@ pub fn execute(
     marks: &mut [i64],
     fuel: u64,
 ) -> Answer
-    ensures { λ r. ⌜ ended r (memory (now (values .exit)) (now (labels .exit)) (now (program .exit)) (now (stack .exit)) (now (numbers .exit)) (now (marks .exit))) ≡ plain (now (sheet .entry)) (memory (now (values .entry)) (now (labels .entry)) (now (program .entry)) (now (stack .entry)) (now (numbers .entry)) (now (marks .entry))) fuel ⌝ }
+    ensures { λ r. ⌜ ended r
+        (memory (now (values .exit)) (now (labels .exit)) (now (program .exit)) (now (stack .exit)) (now (numbers .exit)) (now (marks .exit)))
+        ≡ plain (now (sheet .entry))
+        (memory (now (values .entry)) (now (labels .entry)) (now (program .entry)) (now (stack .entry)) (now (numbers .entry)) (now (marks .entry)))
+        fuel ⌝ }
 {
     let checked = start::check(
         sheet,

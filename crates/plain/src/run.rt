@@ -28,7 +28,9 @@ fn act(
     numbers: &mut [i64],
     marks: &mut [i64],
 ) -> Stepped
-    ensures { λ r. ⌜ after r (lent (now (stack .exit)) (now (values .exit)) (now (labels .exit)) (now (numbers .exit)) (now (marks .exit))) ≡ stepOf room code operand m (lent (now (stack .entry)) (now (values .entry)) (now (labels .entry)) (now (numbers .entry)) (now (marks .entry))) ⌝ }
+    ensures { λ r. ⌜ after r (lent (now (stack .exit)) (now (values .exit)) (now (labels .exit)) (now (numbers .exit)) (now (marks .exit)))
+        ≡ stepOf room code operand m
+        (lent (now (stack .entry)) (now (values .entry)) (now (labels .entry)) (now (numbers .entry)) (now (marks .entry))) ⌝ }
 {
     if code < 6 {
         if code < 3 {
@@ -84,7 +86,9 @@ pub(crate) fn go(
     marks: &mut [i64],
 ) -> Ran
     requires { ⌜ count ≤ 4096 ⌝ }
-    ensures { λ r. ⌜ done r (lent (now (stack .exit)) (now (values .exit)) (now (labels .exit)) (now (numbers .exit)) (now (marks .exit))) ≡ loopOf count room (now (program .entry)) fuel 0 started (lent (now (stack .entry)) (now (values .entry)) (now (labels .entry)) (now (numbers .entry)) (now (marks .entry))) ⌝ }
+    ensures { λ r. ⌜ done r (lent (now (stack .exit)) (now (values .exit)) (now (labels .exit)) (now (numbers .exit)) (now (marks .exit)))
+        ≡ loopOf count room (now (program .entry)) fuel 0 started
+        (lent (now (stack .entry)) (now (values .entry)) (now (labels .entry)) (now (numbers .entry)) (now (marks .entry))) ⌝ }
 {
     let mut m = Machine::start();
     let mut steps: u64 = 0;
