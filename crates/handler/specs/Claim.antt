@@ -1,0 +1,29 @@
+-- What the handler of a rule table does, as document 01's tag engine wants it; proofs/Handler.antt shows it of every well-formed table.
+use Prim.Native.Nat.{ℕ, suc, _≤_, _<_}
+use mathlib.Core.Path.{_≡_}
+use mathlib.Core.List.{List}
+use lib.IntN.{ℤ, pos, negsuc}
+use lib.ListN.{length}
+use Rattle.machine.specs.Rule.{Key, Verdict, denied, allowed}
+use Rattle.policy.specs.Expression.{Table}
+use Rattle.policy.specs.Evaluate.{evaluate}
+use Rattle.handler.specs.Kernel.{Instruction, Outcome, Result, returned, handle}
+use Rattle.handler.specs.Kernel as Kernel
+use Rattle.handler.specs.Translate.{translate}
+use Rattle.handler.specs.Row.{row, faultRow}
+
+-- what a verdict comes to: Ret or the jump to −1
+abbrev pub outcomeOf : Verdict → Outcome
+outcomeOf denied = Kernel.denied
+outcomeOf (allowed p r) = returned
+
+-- and the row: both labels written, or the −1 pair as the fault wrote it
+abbrev pub rowOf : Key → Verdict → List ℤ
+rowOf k denied = faultRow k
+rowOf k (allowed p r) = row k (pos p) (pos r)
+
+-- the handler of t, run for a key, answers as the table does, in at most as many kernel steps as it has instructions
+pub record Handled (t : Table) (k : Key) (x : Result) : Type 0 where
+  pub outcome : x .outcome ≡ outcomeOf (evaluate t k)
+  pub row : x .row ≡ rowOf k (evaluate t k)
+  pub steps : x .steps ≤ length (translate t)
