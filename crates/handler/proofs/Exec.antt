@@ -9,7 +9,7 @@ use Prim.Native.Nat.{ℕ, zero, suc, _+_, _-_, _<_, _≤_}
 use native.Mathlib.Nat.{sub-self}
 use native.Mathlib.Omega.{arith}
 use lib.IntN.{ℤ, pos, negsuc}
-use lib.ListN.{length, getElem?, drop, length-drop, length-set}
+use lib.ListN.{length, getElem?, drop, length-drop, length-set, drop-of-length-le}
 use lib.Seq.{drop-drop}
 use borrow.Author.Tests.{ltb-true, lt-ltb}
 use lib.Dec.{ltb}
@@ -102,9 +102,6 @@ module _ (place : ℕ) (w : List ℤ) where
   next-keeps : (s t : List ℤ) → length t ≤ length s → Keeps place s w (goes (suc place) t w)
   next-keeps s t h = record { forward = omega arith; depth = λ g. omega arith; words = refl }
 
-  shorter : {s t : List ℤ} → s ≡ t → length t ≤ length s
-  shorter e = omega (arith, ap length e)
-
   pub effect-keeps : (i : Instruction) (s : List ℤ) → Keeps place s w (effect i place s w)
   unfolding effect
   effect-keeps Add s = values-keeps s _ (λ a b t e. next-keeps s _ (omega (arith, ap length e)))
@@ -149,3 +146,32 @@ ended-ending : (o : Outcome) (x : Kernel) → endingOf (ended o x) ≡ ending o 
 ended-ending returned x = refl
 ended-ending denied x = refl
 ended-ending failed x = refl
+
+module _ (code : List Instruction) where
+  -- a run with this fuel has the meaning of the instructions from its place on
+  abbrev Means : ℕ → Type 0
+  Means fuel = (p : ℕ) (s w : List ℤ) (k : ℕ) → length code ≤ p + fuel
+      → endingOf (run code fuel (state p s w k)) ≡ exec (length code) (drop p code) 0 s w
+
+  module _ (fuel : ℕ) (means : Means fuel) (p : ℕ) (s w : List ℤ) (k : ℕ) (h : length code ≤ p + suc fuel) where
+    by-effect : (rest : List Instruction) → drop (suc p) code ≡ rest → (e : Effect) → Keeps p s w e
+        → endingOf (after e (state p s w k) (λ y. run code fuel y))
+        ≡ resume e w (λ q t v. exec (length code) rest (q - suc p) t v)
+    by-effect rest d (ends o) kept = ended-ending o (state p s w k)
+    by-effect rest d (goes q t v) kept =
+        let e : suc p + (q - suc p) ≡ q = omega (arith, kept .forward) in
+        means q t v (suc k) (omega (arith, kept .forward))
+        ∙ rw (exec-skip (length code) rest (q - suc p) t v, ← d, drop-drop (q - suc p) (suc p) code, e)
+
+    by-rest : (l : List Instruction) → drop p code ≡ l
+        → endingOf (run code (suc fuel) (state p s w k)) ≡ exec (length code) l 0 s w
+    unfolding run step exec
+    by-rest [] d = rw (element-none code p d)
+    by-rest (i ∷ rest) d =
+        let e : length code - suc (length rest) ≡ p = omega (arith, ap length d, length-drop p code) in
+        rw (element-some code p i rest d, e)
+        (by-effect rest (drop-rest code p i rest d) (effect i p s w) (effect-keeps p w i s))
+
+  pub run-exec : (fuel : ℕ) → Means fuel
+  run-exec zero p s w k h = unfold run exec in rw (drop-of-length-le code {i = p} (omega arith))
+  run-exec (suc fuel) p s w k h = by-rest fuel (run-exec fuel) p s w k h (drop p code) refl

@@ -1,2 +1,4 @@
 pub mod Word
 pub mod Exec
+pub mod Instruction
+pub mod Compile
