@@ -16,7 +16,12 @@ use Rattle.handler.specs.Kernel.{returned, denied, goes, effect, orWord,
 use Rattle.handler.specs.Translate.{read}
 use Rattle.handler.proofs.Exec.{exec, exec-skip, ending}
 
--- passing over a block
+-- passing over an instruction, over a block
+pub exec-pass : (n : ℕ) (i : Instruction) (rest : List Instruction) (skip : ℕ) (s w : List ℤ)
+    → exec n (i ∷ rest) (suc skip) s w ≡ exec n rest skip s w
+unfolding exec
+exec-pass n i rest skip s w = refl
+
 pub exec-over : (n : ℕ) (block rest : List Instruction) (s w : List ℤ) → exec n (block ++ rest) (length block) s w ≡ exec n rest 0 s w
 exec-over n block rest s w = exec-skip n (block ++ rest) (length block) s w ∙ rw (drop-append-seam block rest)
 
@@ -73,6 +78,15 @@ module _ (n : ℕ) (rest : List Instruction) (s w : List ℤ) where
   exec-bnz c skip =
       exec-goes (Bnz (pos (suc skip))) (pos (suc c) ∷ s) s w skip
       (λ place. let e : place + suc skip ≡ suc place + skip = omega arith in rw (e, lt-ltb place (suc place + skip) (omega arith)))
+
+  -- a jump forward, from its place
+  pub exec-jump : (place skip : ℕ) → n ≡ suc place + length rest
+      → exec n (Jump ∷ rest) 0 (pos (suc place + skip) ∷ s) w ≡ exec n rest skip s w
+  unfolding exec effect
+  exec-jump place skip e =
+      let at : n - suc (length rest) ≡ place = omega arith in
+      let over : suc place + skip - suc place ≡ skip = omega arith in
+      rw (at, lt-ltb place (suc place + skip) (omega arith), over)
 
   pub exec-ret : exec n (Ret ∷ rest) 0 s w ≡ ending returned w
   unfolding exec effect

@@ -2,3 +2,5 @@ pub mod Word
 pub mod Exec
 pub mod Instruction
 pub mod Compile
+pub mod Dispatch
+pub mod Handler

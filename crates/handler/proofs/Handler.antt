@@ -1,0 +1,82 @@
+-- The handler of a well-formed table: what it answers, how long it is, how many steps it takes, what its stack holds.
+-- Assumes nothing.
+use mathlib.Core.Path.{_≡_, refl, sym, ap, _∙_}
+use mathlib.Core.Bool.{Bool, true, false}
+use mathlib.Core.List.{List, [], _∷_, _++_}
+use mathlib.Core.Option.{Option, none, some}
+use Prim.Native.Nat.{ℕ, zero, suc, _+_, _-_, _*_, max, _<_, _≤_}
+use native.Mathlib.Omega.{arith}
+use lib.IntN.{ℤ, pos, negsuc}
+use lib.ListN.{length, getElem?, length-append}
+use lib.Dec.{ltb}
+use borrow.Author.Tests.{lt-ltb}
+use Rattle.label.specs.Label.{InRange}
+use Rattle.program.specs.Command.{Opcode, codeOf, add, sub, pop, output, push, load, store, jump, bnz, call, ret}
+use Rattle.machine.specs.Rule.{Input, present, missing, Key}
+use Rattle.machine.specs.Holds.{InputHas, KeyHas}
+use Rattle.policy.specs.Expression.{Rule, Table}
+use Rattle.policy.specs.Evaluate.{ruleOf, evalRule, evaluate}
+use Rattle.handler.specs.Kernel.{Instruction, Outcome, returned, denied, failed, Effect, ends, goes, Kernel, Result}
+use Rattle.handler.specs.Kernel.{step, after, ended, run, handle, start}
+use Rattle.handler.specs.Translate.{compileRule, translate}
+use Rattle.handler.specs.WellFormed.{WellFormed, supplies}
+use Rattle.handler.specs.Row.{faultRow, PresentIf, Supplied}
+use Rattle.handler.specs.Claim.{Handled}
+use Rattle.handler.proofs.Exec.{exec, Ending, endingOf, run-exec}
+use Rattle.handler.proofs.Compile.{Readable, Reads}
+use Rattle.handler.proofs.Dispatch.{endingFor, rule-run, dispatch-run}
+
+-- ════════════════════════════════════════════════════════════════════════════════════════════
+-- What a handler answers
+-- ════════════════════════════════════════════════════════════════════════════════════════════
+
+-- an input that the command supplies, with its label in range, can be read
+supplied-readable : (i : Input) (b : Bool) → PresentIf b i → InputHas InRange i → b ≡ true → Readable i
+supplied-readable (present l) b h g e = g
+supplied-readable missing true h g e = h
+supplied-readable missing false h g e = let z : _≡_ {A = ℕ} 0 1 = cc in absurd (omega arith)
+
+supplied-reads : (k : Key) → Supplied k → KeyHas InRange k → Reads (supplies (k .opcode)) k
+supplied-reads k h g =
+    record {
+      pc = g .pc;
+      input1 = λ l. supplied-readable (k .input1) _ (h .input1) (g .input1) (lt-ltb 0 _ l);
+      input2 = λ l. supplied-readable (k .input2) _ (h .input2) (g .input2) (lt-ltb 1 _ l);
+      input3 = λ l. supplied-readable (k .input3) _ (h .input3) (g .input3) (lt-ltb 2 _ l) }
+
+element-in : (t : Table) (i : ℕ) → i < length t → (a : Rule) × (getElem? t i ≡ some a)
+element-in [] i h = absurd (omega arith)
+element-in (a ∷ t) zero h = (a, refl)
+element-in (a ∷ t) (suc i) h = element-in t i (omega arith)
+
+code-range : (o : Opcode) → (codeOf o ≡ suc (codeOf o - 1)) × (codeOf o - 1 < 11)
+code-range add = omega arith
+code-range sub = omega arith
+code-range pop = omega arith
+code-range output = omega arith
+code-range push = omega arith
+code-range load = omega arith
+code-range store = omega arith
+code-range jump = omega arith
+code-range bnz = omega arith
+code-range call = omega arith
+code-range ret = omega arith
+
+module _ (t : Table) (k : Key) (well : WellFormed t) (supplied : Supplied k) (range : KeyHas InRange k) where
+  exec-handler : exec (length (translate t)) (translate t) 0 [] (faultRow k) ≡ endingFor k (evaluate t k)
+  unfolding evaluate
+  exec-handler =
+      let o = k .opcode in
+      let (a, e) = element-in t (codeOf o - 1) (omega (arith, code-range o, well .rules)) in
+      rw e
+      (dispatch-run t (codeOf o - 1) (faultRow k) _ a (omega (arith, code-range o))
+      (ap (λ (c : ℕ). some (pos c)) (code-range o .0)) e
+      (λ rest. rule-run (length (translate t)) (supplies o) k (supplied-reads k supplied range) a rest (well .inputs o a e) (well .depth o a e)))
+
+  handler-ending : endingOf (handle (translate t) (faultRow k)) ≡ endingFor k (evaluate t k)
+  unfolding handle
+  handler-ending = run-exec (translate t) (length (translate t)) 0 [] (faultRow k) 0 (omega arith) ∙ exec-handler
+
+-- ════════════════════════════════════════════════════════════════════════════════════════════
+-- How many steps it takes
+-- ════════════════════════════════════════════════════════════════════════════════════════════
