@@ -83,7 +83,7 @@ module _ (n m : ℕ) (k : Key) (reads : Reads m k) where
 -- The dispatch
 -- ════════════════════════════════════════════════════════════════════════════════════════════
 
-slots-length : (bodies : List (List Instruction)) (before : ℕ) → length (slots before bodies) ≡ length bodies
+pub slots-length : (bodies : List (List Instruction)) (before : ℕ) → length (slots before bodies) ≡ length bodies
 slots-length [] before = refl
 slots-length (b ∷ bs) before = ap suc (slots-length bs (before + length b))
 

@@ -17,12 +17,12 @@ use Rattle.machine.specs.Holds.{InputHas, KeyHas}
 use Rattle.policy.specs.Expression.{Rule, Table}
 use Rattle.policy.specs.Evaluate.{ruleOf, evalRule, evaluate}
 use Rattle.handler.specs.Kernel.{Instruction, Outcome, returned, denied, failed, Effect, ends, goes, Kernel, Result}
-use Rattle.handler.specs.Kernel.{step, after, ended, run, handle, start}
+use Rattle.handler.specs.Kernel.{step, effectAt, after, ended, run, handle, start, stackLimit}
 use Rattle.handler.specs.Translate.{compileRule, translate}
 use Rattle.handler.specs.WellFormed.{WellFormed, supplies}
 use Rattle.handler.specs.Row.{faultRow, PresentIf, Supplied}
-use Rattle.handler.specs.Claim.{Handled}
-use Rattle.handler.proofs.Exec.{exec, Ending, endingOf, run-exec}
+use Rattle.handler.specs.Claim.{Handled, Reaches, here, next}
+use Rattle.handler.proofs.Exec.{exec, Ending, endingOf, run-exec, Keeps, Kept, effect-keeps}
 use Rattle.handler.proofs.Compile.{Readable, Reads}
 use Rattle.handler.proofs.Dispatch.{endingFor, rule-run, dispatch-run}
 
@@ -42,7 +42,8 @@ supplied-reads k h g =
       pc = g .pc;
       input1 = λ l. supplied-readable (k .input1) _ (h .input1) (g .input1) (lt-ltb 0 _ l);
       input2 = λ l. supplied-readable (k .input2) _ (h .input2) (g .input2) (lt-ltb 1 _ l);
-      input3 = λ l. supplied-readable (k .input3) _ (h .input3) (g .input3) (lt-ltb 2 _ l) }
+      input3 = λ l. supplied-readable (k .input3) _ (h .input3) (g .input3) (lt-ltb 2 _ l);
+    }
 
 element-in : (t : Table) (i : ℕ) → i < length t → (a : Rule) × (getElem? t i ≡ some a)
 element-in [] i h = absurd (omega arith)
@@ -78,5 +79,42 @@ module _ (t : Table) (k : Key) (well : WellFormed t) (supplied : Supplied k) (ra
   handler-ending = run-exec (translate t) (length (translate t)) 0 [] (faultRow k) 0 (omega arith) ∙ exec-handler
 
 -- ════════════════════════════════════════════════════════════════════════════════════════════
--- How many steps it takes
+-- How many steps it takes, and what its stack holds
 -- ════════════════════════════════════════════════════════════════════════════════════════════
+
+run-steps : (code : List Instruction) (fuel : ℕ) (x : Kernel) → run code fuel x .steps ≤ x .steps + fuel
+unfolding run
+run-steps code zero x = omega arith
+run-steps code (suc fuel) x = by (step code x) (λ y. run-steps code fuel y)
+  where
+    by : (e : Effect) → ((y : Kernel) → run code fuel y .steps ≤ y .steps + fuel)
+        → after e x (λ y. run code fuel y) .steps ≤ x .steps + suc fuel
+    by (ends returned) h = omega arith
+    by (ends denied) h = omega arith
+    by (ends failed) h = omega arith
+    by (goes p s w) h = omega (arith, h (record { place = p; stack = s; row = w; steps = suc (x .steps) }))
+
+-- one fault takes no more kernel steps than the handler has instructions, whatever the row
+pub handler-steps : (t : Table) (w : List ℤ) → handle (translate t) w .steps ≤ length (translate t)
+unfolding handle
+handler-steps t w = omega (arith, run-steps (translate t) (length (translate t)) (start w))
+
+-- whatever the row, every step goes forward, and the stack never holds more than 64
+element-keeps : (o : Option Instruction) (x : Kernel) → Keeps (x .place) (x .stack) (x .row) (effectAt o x)
+element-keeps none x = tt
+element-keeps (some i) x = effect-keeps (x .place) (x .row) i (x .stack)
+
+step-kept : (code : List Instruction) (x : Kernel) {p : ℕ} {s w : List ℤ} → step code x ≡ goes p s w
+    → Kept (x .place) (x .stack) (x .row) p s w
+unfolding step
+step-kept code x e = rw e at (element-keeps (getElem? code (x .place)) x)
+
+pub handler-stack : (t : Table) (w : List ℤ) {y : Kernel} → Reaches (translate t) (start w) y → length (y .stack) ≤ stackLimit
+handler-stack t w here = omega arith
+handler-stack t w (next {y = y} r e) = step-kept (translate t) y e .depth (handler-stack t w r)
+
+-- for every key of a supplied shape the handler answers as the table does: it never fails
+pub handler-run : (t : Table) (k : Key) → WellFormed t → Supplied k → KeyHas InRange k → Handled t k (handle (translate t) (faultRow k))
+handler-run t k well supplied range =
+    let e = handler-ending t k well supplied range in
+    record { outcome = ap (λ (x : Ending). x .outcome) e; row = ap (λ (x : Ending). x .row) e; steps = handler-steps t (faultRow k) }

@@ -4,3 +4,4 @@ pub mod Instruction
 pub mod Compile
 pub mod Dispatch
 pub mod Handler
+pub mod Shape
