@@ -5,3 +5,4 @@ pub mod Compile
 pub mod Dispatch
 pub mod Handler
 pub mod Shape
+pub mod Space

@@ -3,3 +3,4 @@ pub mod Translate
 pub mod WellFormed
 pub mod Row
 pub mod Claim
+pub mod Space
