@@ -19,7 +19,7 @@ use Rattle.policy.specs.Evaluate.{ruleOf, evalRule, evaluate}
 use Rattle.handler.specs.Kernel.{Instruction, Outcome, returned, denied, failed, Effect, ends, goes, Kernel, Result}
 use Rattle.handler.specs.Kernel.{step, effectAt, after, ended, run, handle, start, stackLimit}
 use Rattle.handler.specs.Translate.{compileRule, translate}
-use Rattle.handler.specs.WellFormed.{WellFormed, supplies}
+use Rattle.handler.specs.WellFormed.{WellFormed, HasRule, supplies}
 use Rattle.handler.specs.Row.{faultRow, PresentIf, Supplied}
 use Rattle.handler.specs.Claim.{Handled, Reaches, here, next}
 use Rattle.handler.proofs.Exec.{exec, Ending, endingOf, run-exec, Keeps, Kept, effect-keeps}
@@ -45,11 +45,6 @@ supplied-reads k h g =
       input3 = λ l. supplied-readable (k .input3) _ (h .input3) (g .input3) (lt-ltb 2 _ l);
     }
 
-element-in : (t : Table) (i : ℕ) → i < length t → (a : Rule) × (getElem? t i ≡ some a)
-element-in [] i h = absurd (omega arith)
-element-in (a ∷ t) zero h = (a, refl)
-element-in (a ∷ t) (suc i) h = element-in t i (omega arith)
-
 code-range : (o : Opcode) → (codeOf o ≡ suc (codeOf o - 1)) × (codeOf o - 1 < 11)
 code-range add = omega arith
 code-range sub = omega arith
@@ -64,19 +59,21 @@ code-range call = omega arith
 code-range ret = omega arith
 
 module _ (t : Table) (k : Key) (well : WellFormed t) (supplied : Supplied k) (range : KeyHas InRange k) where
-  exec-handler : exec (length (translate t)) (translate t) 0 [] (faultRow k) ≡ endingFor k (evaluate t k)
-  unfolding evaluate
-  exec-handler =
-      let o = k .opcode in
-      let (a, e) = element-in t (codeOf o - 1) (omega (arith, code-range o, well .rules)) in
-      rw e
-      (dispatch-run t (codeOf o - 1) (faultRow k) _ a (omega (arith, code-range o))
-      (ap (λ (c : ℕ). some (pos c)) (code-range o .0)) e
-      (λ rest. rule-run (length (translate t)) (supplies o) k (supplied-reads k supplied range) a rest (well .inputs o a e) (well .depth o a e)))
+  exec-handler : (o : Option Rule) → ruleOf t (k .opcode) ≡ o → HasRule (k .opcode) o
+      → exec (length (translate t)) (translate t) 0 [] (faultRow k) ≡ endingFor k (evalRule o k)
+  exec-handler none e f = absurd f
+  exec-handler (some a) e f =
+      dispatch-run t (codeOf (k .opcode) - 1) (faultRow k) (endingFor k (evalRule (some a) k)) a
+      (omega (arith, code-range (k .opcode)))
+      (ap (λ (c : ℕ). some (pos c)) (code-range (k .opcode) .0))
+      e
+      (λ rest. rule-run (length (translate t)) (supplies (k .opcode)) k (supplied-reads k supplied range) a rest (f .inputs) (f .depth))
 
   handler-ending : endingOf (handle (translate t) (faultRow k)) ≡ endingFor k (evaluate t k)
-  unfolding handle
-  handler-ending = run-exec (translate t) (length (translate t)) 0 [] (faultRow k) 0 (omega arith) ∙ exec-handler
+  unfolding handle evaluate
+  handler-ending =
+      run-exec (translate t) (length (translate t)) 0 [] (faultRow k) 0 (omega arith)
+      ∙ exec-handler (ruleOf t (k .opcode)) refl (well .rule (k .opcode))
 
 -- ════════════════════════════════════════════════════════════════════════════════════════════
 -- How many steps it takes, and what its stack holds

@@ -6,3 +6,4 @@ pub mod Dispatch
 pub mod Handler
 pub mod Shape
 pub mod Space
+pub mod Readings

@@ -4,3 +4,4 @@ pub mod WellFormed
 pub mod Row
 pub mod Claim
 pub mod Space
+pub mod Reading

@@ -3,7 +3,7 @@
 use Prim.Native.Nat.{ℕ, zero, suc, _+_, max, _≤_}
 use mathlib.Core.Path.{_≡_}
 use mathlib.Core.List.{List, [], _∷_}
-use mathlib.Core.Option.{some}
+use mathlib.Core.Option.{Option, none, some}
 use lib.ListN.{length}
 use Rattle.program.specs.Command.{Opcode, add, sub, pop, output, push, load, store, jump, bnz, call, ret}
 use Rattle.policy.specs.Expression.{LabelExpr, empty, place, input1, input2, input3, join, Condition, flows, always, both, either, Rule, Table}
@@ -81,8 +81,16 @@ conditionInputs (either a b) = max (conditionInputs a) (conditionInputs b)
 abbrev pub ruleInputs : Rule → ℕ
 ruleInputs r = max (conditionInputs (r .allowed)) (max (labelInputs (r .pc)) (labelInputs (r .result)))
 
+-- a rule that a command may have
+pub record Fits (o : Opcode) (r : Rule) : Type 0 where
+  pub depth : ruleDepth r ≤ 8
+  pub inputs : ruleInputs r ≤ supplies o
+
+abbrev pub HasRule : Opcode → Option Rule → Type 0
+HasRule o none = ⊥
+HasRule o (some r) = Fits o r
+
 pub record WellFormed (t : Table) : Type 0 where
   pub rules : length t ≡ 11
+  pub rule : (o : Opcode) → HasRule o (ruleOf t o)
   pub size : tableSize t ≤ 512
-  pub depth : (o : Opcode) (r : Rule) → ruleOf t o ≡ some r → ruleDepth r ≤ 8
-  pub inputs : (o : Opcode) (r : Rule) → ruleOf t o ≡ some r → ruleInputs r ≤ supplies o
