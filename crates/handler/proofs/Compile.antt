@@ -1,22 +1,21 @@
 -- Translated expressions: run before any rest they leave their value, and nothing else, on the stack.
 -- Assumes nothing.
-use mathlib.Core.Path.{_≡_, refl, sym, ap, _∙_}
-use mathlib.Core.Bool.{Bool, true, false, _&&_, _||_}
-use mathlib.Core.List.{List, [], _∷_, _++_, append-assoc}
-use Prim.Native.Nat.{ℕ, zero, suc, _+_, _-_, max, _<_, _≤_}
+use mathlib.Core.Path.{_≡_, refl, ap, _∙_}
+use mathlib.Core.Bool.{_||_}
+use mathlib.Core.List.{List, _∷_, _++_, append-assoc}
+use Prim.Native.Nat.{ℕ, zero, suc, _+_, _-_, _≤_}
 use native.Mathlib.Omega.{arith}
-use lib.IntN.{ℤ, pos, negsuc}
+use lib.IntN.{ℤ, pos}
 use lib.ListN.{length}
 use mathlib.Core.Option.{some}
 use lib.Dec.{eqb, eqb·suc-zero}
-use borrow.Author.Tests.{eqb-true, eqb-false, eq-eqb, ne-eqb}
 use Rattle.label.specs.Label as Label
 use Rattle.label.specs.Label.{InRange}
 use Rattle.label.proofs.Laws.{join-range, join-comm, flows-is-join}
 use Rattle.machine.specs.Rule.{Input, present, missing, Key, labelOf}
-use Rattle.policy.specs.Expression.{LabelExpr, empty, place, input1, input2, input3, join, Condition, flows, always, both, either, Rule, Table}
+use Rattle.policy.specs.Expression.{LabelExpr, empty, place, input1, input2, input3, join, Condition, flows, always, both, either}
 use Rattle.policy.specs.Evaluate.{evalLabel, evalCondition}
-use Rattle.handler.specs.Kernel.{Instruction, Add, Sub, Or, Load, Store, Dup, Jump, Ret, Push, Bnz, orWord, stackLimit}
+use Rattle.handler.specs.Kernel.{Instruction, Push, Bnz, stackLimit}
 use Rattle.handler.specs.Translate.{compileLabel, compileCondition}
 use Rattle.handler.specs.WellFormed.{labelDepth, conditionDepth, labelInputs, conditionInputs}
 use Rattle.handler.specs.Row.{row, inputWord}

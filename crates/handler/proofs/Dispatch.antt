@@ -1,10 +1,9 @@
 -- A translated rule ends the handler as the rule says, and the dispatch chooses the rule of the code.
 -- Assumes nothing.
-use mathlib.Core.Path.{_≡_, refl, sym, ap, _∙_}
-use mathlib.Core.Bool.{Bool, true, false}
+use mathlib.Core.Path.{_≡_, refl, ap, _∙_}
 use mathlib.Core.List.{List, [], _∷_, _++_, append-assoc, map}
-use mathlib.Core.Option.{Option, none, some}
-use Prim.Native.Nat.{ℕ, zero, suc, _+_, _-_, _^_, max, _<_, _≤_}
+use mathlib.Core.Option.{some}
+use Prim.Native.Nat.{ℕ, zero, suc, _+_, _^_, _<_, _≤_}
 use native.Mathlib.Omega.{arith}
 use lib.IntN.{ℤ, pos, negsuc}
 use lib.ListN.{length, getElem?, length-append}
@@ -13,12 +12,12 @@ use Rattle.word.specs.Wrap.{addWrap}
 use Rattle.machine.specs.Rule.{Key, Verdict, allowedIf}
 use Rattle.policy.specs.Expression.{Condition, flows, always, both, either, Rule, Table}
 use Rattle.policy.specs.Evaluate.{evalLabel, evalCondition, evalRule}
-use Rattle.handler.specs.Kernel.{Instruction, Jump, Push, Bnz, Load, Store, Dup, Add, Ret, returned, denied}
-use Rattle.handler.specs.Translate.{read, compileLabel, compileCondition, compileAnswer, compileIf, compileRule, guarded, slots, concat, dispatch, translate}
-use Rattle.handler.specs.WellFormed.{ruleDepth, ruleInputs, conditionDepth, conditionInputs, labelDepth, labelInputs}
+use Rattle.handler.specs.Kernel.{Instruction, Jump, Push, Bnz, Dup, Add, returned}
+use Rattle.handler.specs.Translate.{read, compileAnswer, compileIf, compileRule, guarded, slots, concat, translate}
+use Rattle.handler.specs.WellFormed.{ruleDepth, ruleInputs, conditionDepth, conditionInputs}
 use Rattle.handler.specs.Row.{row, faultRow}
 use Rattle.handler.specs.Claim.{outcomeOf, rowOf}
-use Rattle.handler.proofs.Exec.{exec, exec-skip, Ending, ending}
+use Rattle.handler.proofs.Exec.{exec, Ending, ending}
 use Rattle.handler.proofs.Instruction.{exec-push, exec-store, exec-ret, exec-bnz, exec-bnz-zero, exec-denied, exec-over, exec-pass}
 use Rattle.handler.proofs.Instruction.{exec-read, exec-dup, exec-add, exec-jump}
 use Rattle.handler.proofs.Word.{addWrap-pos}

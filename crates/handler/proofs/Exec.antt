@@ -1,23 +1,18 @@
 -- The meaning of a handler by recursion on the instructions that remain: a forward jump drops a prefix of them. A run with enough fuel
 -- has this meaning.
 -- Assumes nothing.
-use mathlib.Core.Path.{_≡_, refl, sym, ap, subst, _∙_}
-use mathlib.Core.Bool.{Bool, true, false}
-use mathlib.Core.List.{List, [], _∷_, _++_}
-use mathlib.Core.Option.{Option, none, some}
-use Prim.Native.Nat.{ℕ, zero, suc, _+_, _-_, _<_, _≤_}
-use native.Mathlib.Nat.{sub-self}
+use mathlib.Core.Path.{_≡_, refl, ap, _∙_}
+use mathlib.Core.List.{List, [], _∷_}
+use mathlib.Core.Option.{none, some}
+use Prim.Native.Nat.{ℕ, zero, suc, _+_, _-_, _≤_}
 use native.Mathlib.Omega.{arith}
-use lib.IntN.{ℤ, pos, negsuc}
-use lib.ListN.{length, getElem?, drop, length-drop, length-set, drop-of-length-le}
+use lib.IntN.{ℤ}
+use lib.ListN.{length, getElem?, drop, length-drop, drop-of-length-le}
 use lib.Seq.{drop-drop}
-use borrow.Author.Tests.{ltb-true, lt-ltb}
-use lib.Dec.{ltb}
-use Rattle.handler.specs.Kernel.{Instruction, Outcome, returned, denied, failed, Effect, ends, goes, Kernel, Result}
-use Rattle.handler.specs.Kernel.{effect, effectAt, step, after, ended, run}
-use Rattle.handler.specs.Kernel.{Add, Sub, Or, Load, Store, Dup, Swap, Jump, Ret, Push, Bnz}
-use Rattle.handler.specs.Kernel.{stackLimit, withValue, withValues, withElement, withWord, provided, pushing, jumping}
-use Rattle.machine.specs.Step.{branch}
+use Rattle.handler.specs.Kernel.{Instruction}
+use Rattle.handler.specs.Kernel.{Outcome, returned, denied, failed, Effect, ends, goes, Kernel, Result}
+use Rattle.handler.specs.Kernel.{effect, step, after, ended, run}
+use Rattle.handler.proofs.Effect.{Keeps, effect-keeps}
 
 -- how a handler ends, without the number of steps
 pub record Ending : Type 0 where
@@ -47,76 +42,6 @@ unfolding exec
 exec-skip n code zero s w = refl
 exec-skip n [] (suc skip) s w = refl
 exec-skip n (i ∷ code) (suc skip) s w = exec-skip n code skip s w
-
--- ════════════════════════════════════════════════════════════════════════════════════════════
--- What every effect keeps
--- ════════════════════════════════════════════════════════════════════════════════════════════
-
--- it goes forward, stays within the stack's limit, and leaves the row as long as it was
-pub record Kept (place : ℕ) (s w : List ℤ) (p : ℕ) (t v : List ℤ) : Type 0 where
-  pub forward : place < p
-  pub depth : length s ≤ stackLimit → length t ≤ stackLimit
-  pub words : length v ≡ length w
-
-abbrev pub Keeps : ℕ → List ℤ → List ℤ → Effect → Type 0
-Keeps place s w (ends o) = Unit
-Keeps place s w (goes p t v) = Kept place s w p t v
-
-module _ (place : ℕ) (w : List ℤ) where
-  provided-keeps : (s : List ℤ) (b : Bool) (e : Effect) → (b ≡ true → Keeps place s w e) → Keeps place s w (provided b e)
-  provided-keeps s true e h = h refl
-  provided-keeps s false e h = tt
-
-  word-keeps : (s : List ℤ) (z : ℤ) (k : ℕ → ℤ → Effect) → ((i : ℕ) (a : ℤ) → Keeps place s w (k i a)) → Keeps place s w (withWord w z k)
-  word-keeps s (pos i) k h = element (getElem? w i)
-    where
-      element : (o : Option ℤ) → Keeps place s w (withElement o (k i))
-      element none = tt
-      element (some a) = h i a
-  word-keeps s (negsuc i) k h = tt
-
-  value-keeps : (s : List ℤ) (k : ℤ → List ℤ → Effect)
-      → ((a : ℤ) (t : List ℤ) → s ≡ a ∷ t → Keeps place s w (k a t)) → Keeps place s w (withValue s k)
-  value-keeps [] k h = tt
-  value-keeps (a ∷ t) k h = h a t refl
-
-  values-keeps : (s : List ℤ) (k : ℤ → ℤ → List ℤ → Effect)
-      → ((a b : ℤ) (t : List ℤ) → s ≡ a ∷ b ∷ t → Keeps place s w (k a b t)) → Keeps place s w (withValues s k)
-  values-keeps [] k h = tt
-  values-keeps (a ∷ []) k h = tt
-  values-keeps (a ∷ b ∷ t) k h = h a b t refl
-
-  pushing-keeps : (s : List ℤ) (a : ℤ) → Keeps place s w (pushing place a s w)
-  pushing-keeps s a =
-      provided-keeps s (ltb (length s) stackLimit) (goes (suc place) (a ∷ s) w)
-      (λ e. record { forward = omega arith; depth = λ h. ltb-true (length s) stackLimit e; words = refl })
-
-  jumping-keeps : (s t : List ℤ) (z : ℤ) → length t ≤ length s → Keeps place s w (jumping place z t w)
-  jumping-keeps s t (pos target) h =
-      provided-keeps s (ltb place target) (goes target t w)
-      (λ e. record { forward = ltb-true place target e; depth = λ g. omega arith; words = refl })
-  jumping-keeps s t (negsuc zero) h = tt
-  jumping-keeps s t (negsuc (suc n)) h = tt
-
-  -- a smaller stack at the next place
-  next-keeps : (s t : List ℤ) → length t ≤ length s → Keeps place s w (goes (suc place) t w)
-  next-keeps s t h = record { forward = omega arith; depth = λ g. omega arith; words = refl }
-
-  pub effect-keeps : (i : Instruction) (s : List ℤ) → Keeps place s w (effect i place s w)
-  unfolding effect
-  effect-keeps Add s = values-keeps s _ (λ a b t e. next-keeps s _ (omega (arith, ap length e)))
-  effect-keeps Sub s = values-keeps s _ (λ a b t e. next-keeps s _ (omega (arith, ap length e)))
-  effect-keeps Or s = values-keeps s _ (λ a b t e. next-keeps s _ (omega (arith, ap length e)))
-  effect-keeps Load s = value-keeps s _ (λ a t e. word-keeps s a _ (λ i b. next-keeps s _ (omega (arith, ap length e))))
-  effect-keeps Store s =
-      values-keeps s _ (λ a b t e. word-keeps s a _ (λ i c.
-      record { forward = omega arith; depth = λ g. omega (arith, ap length e); words = length-set w i b }))
-  effect-keeps Dup s = value-keeps s _ (λ a t e. pushing-keeps s a)
-  effect-keeps Swap s = values-keeps s _ (λ a b t e. next-keeps s _ (omega (arith, ap length e)))
-  effect-keeps Jump s = value-keeps s _ (λ a t e. jumping-keeps s t a (omega (arith, ap length e)))
-  effect-keeps Ret s = tt
-  effect-keeps (Push n) s = pushing-keeps s n
-  effect-keeps (Bnz n) s = value-keeps s _ (λ a t e. jumping-keeps s t (branch a (pos place) n) (omega (arith, ap length e)))
 
 -- ════════════════════════════════════════════════════════════════════════════════════════════
 -- A run has this meaning

@@ -1,14 +1,13 @@
 -- The handler of a well-formed table: what it answers, how long it is, how many steps it takes, what its stack holds.
 -- Assumes nothing.
-use mathlib.Core.Path.{_≡_, refl, sym, ap, _∙_}
+use mathlib.Core.Path.{_≡_, refl, ap, _∙_}
 use mathlib.Core.Bool.{Bool, true, false}
-use mathlib.Core.List.{List, [], _∷_, _++_}
+use mathlib.Core.List.{List, []}
 use mathlib.Core.Option.{Option, none, some}
-use Prim.Native.Nat.{ℕ, zero, suc, _+_, _-_, _*_, max, _<_, _≤_}
+use Prim.Native.Nat.{ℕ, suc, _-_, _<_, _≤_}
 use native.Mathlib.Omega.{arith}
-use lib.IntN.{ℤ, pos, negsuc}
-use lib.ListN.{length, getElem?, length-append}
-use lib.Dec.{ltb}
+use lib.IntN.{ℤ, pos}
+use lib.ListN.{length}
 use borrow.Author.Tests.{lt-ltb}
 use Rattle.label.specs.Label.{InRange}
 use Rattle.program.specs.Command.{Opcode, codeOf, add, sub, pop, output, push, load, store, jump, bnz, call, ret}
@@ -16,13 +15,14 @@ use Rattle.machine.specs.Rule.{Input, present, missing, Key}
 use Rattle.machine.specs.Holds.{InputHas, KeyHas}
 use Rattle.policy.specs.Expression.{Rule, Table}
 use Rattle.policy.specs.Evaluate.{ruleOf, evalRule, evaluate}
-use Rattle.handler.specs.Kernel.{Instruction, Outcome, returned, denied, failed, Effect, ends, goes, Kernel, Result}
-use Rattle.handler.specs.Kernel.{step, effectAt, after, ended, run, handle, start, stackLimit}
-use Rattle.handler.specs.Translate.{compileRule, translate}
+use Rattle.handler.specs.Kernel.{Kernel}
+use Rattle.handler.specs.Kernel.{handle, start}
+use Rattle.handler.specs.Translate.{translate}
 use Rattle.handler.specs.WellFormed.{WellFormed, HasRule, supplies}
 use Rattle.handler.specs.Row.{faultRow, PresentIf, Supplied}
-use Rattle.handler.specs.Claim.{Handled, Reaches, here, next}
-use Rattle.handler.proofs.Exec.{exec, Ending, endingOf, run-exec, Keeps, Kept, effect-keeps}
+use Rattle.handler.specs.Claim.{Handled, Reaches}
+use Rattle.handler.proofs.Exec.{exec, Ending, endingOf, run-exec}
+use Rattle.handler.proofs.Effect.{handle-steps, reaches-stack}
 use Rattle.handler.proofs.Compile.{Readable, Reads}
 use Rattle.handler.proofs.Dispatch.{endingFor, rule-run, dispatch-run}
 
@@ -75,43 +75,16 @@ module _ (t : Table) (k : Key) (well : WellFormed t) (supplied : Supplied k) (ra
       run-exec (translate t) (length (translate t)) 0 [] (faultRow k) 0 (omega arith)
       ∙ exec-handler (ruleOf t (k .opcode)) refl (well .rule (k .opcode))
 
--- ════════════════════════════════════════════════════════════════════════════════════════════
--- How many steps it takes, and what its stack holds
--- ════════════════════════════════════════════════════════════════════════════════════════════
-
-run-steps : (code : List Instruction) (fuel : ℕ) (x : Kernel) → run code fuel x .steps ≤ x .steps + fuel
-unfolding run
-run-steps code zero x = omega arith
-run-steps code (suc fuel) x = by (step code x) (λ y. run-steps code fuel y)
-  where
-    by : (e : Effect) → ((y : Kernel) → run code fuel y .steps ≤ y .steps + fuel)
-        → after e x (λ y. run code fuel y) .steps ≤ x .steps + suc fuel
-    by (ends returned) h = omega arith
-    by (ends denied) h = omega arith
-    by (ends failed) h = omega arith
-    by (goes p s w) h = omega (arith, h (record { place = p; stack = s; row = w; steps = suc (x .steps) }))
-
--- one fault takes no more kernel steps than the handler has instructions, whatever the row
-pub handler-steps : (t : Table) (w : List ℤ) → handle (translate t) w .steps ≤ length (translate t)
-unfolding handle
-handler-steps t w = omega (arith, run-steps (translate t) (length (translate t)) (start w))
-
--- whatever the row, every step goes forward, and the stack never holds more than 64
-element-keeps : (o : Option Instruction) (x : Kernel) → Keeps (x .place) (x .stack) (x .row) (effectAt o x)
-element-keeps none x = tt
-element-keeps (some i) x = effect-keeps (x .place) (x .row) i (x .stack)
-
-step-kept : (code : List Instruction) (x : Kernel) {p : ℕ} {s w : List ℤ} → step code x ≡ goes p s w
-    → Kept (x .place) (x .stack) (x .row) p s w
-unfolding step
-step-kept code x e = rw e at (element-keeps (getElem? code (x .place)) x)
-
-pub handler-stack : (t : Table) (w : List ℤ) {y : Kernel} → Reaches (translate t) (start w) y → length (y .stack) ≤ stackLimit
-handler-stack t w here = omega arith
-handler-stack t w (next {y = y} r e) = step-kept (translate t) y e .depth (handler-stack t w r)
-
 -- for every key of a supplied shape the handler answers as the table does: it never fails
 pub handler-run : (t : Table) (k : Key) → WellFormed t → Supplied k → KeyHas InRange k → Handled t k (handle (translate t) (faultRow k))
 handler-run t k well supplied range =
     let e = handler-ending t k well supplied range in
-    record { outcome = ap (λ (x : Ending). x .outcome) e; row = ap (λ (x : Ending). x .row) e; steps = handler-steps t (faultRow k) }
+    record { outcome = ap (λ (x : Ending). x .outcome) e; row = ap (λ (x : Ending). x .row) e; steps = handle-steps (translate t) (faultRow k) }
+
+-- one fault takes no more kernel steps than the handler has instructions, whatever the row
+pub handler-steps : (t : Table) (w : List ℤ) → handle (translate t) w .steps ≤ length (translate t)
+handler-steps t w = handle-steps (translate t) w
+
+-- and the stack never holds more than 64
+pub handler-stack : (t : Table) (w : List ℤ) {y : Kernel} → Reaches (translate t) (start w) y → length (y .stack) ≤ 64
+handler-stack t w r = reaches-stack (translate t) r (omega arith)

@@ -1,4 +1,5 @@
 pub mod Word
+pub mod Effect
 pub mod Exec
 pub mod Instruction
 pub mod Compile

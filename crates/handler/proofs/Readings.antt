@@ -1,14 +1,14 @@
 -- The readings of specs/Reading.antt, computed; and the standard table is well formed.
 -- Assumes nothing.
 use mathlib.Core.Path.{_≡_, refl}
-use mathlib.Core.List.{List, map}
+use mathlib.Core.List.{map}
 use native.Mathlib.Omega.{arith}
 use lib.ListN.{length}
 use Rattle.word.specs.Wrap.{residue, signed, wrap, addWrap, subWrap}
 use Rattle.program.specs.Command.{Opcode, add, sub, pop, output, push, load, store, jump, bnz, call, ret}
 use Rattle.policy.specs.Evaluate.{ruleOf}
 use Rattle.handler.specs.WellFormed.{WellFormed, HasRule}
-use Rattle.handler.specs.Kernel.{Result, orWord, effect, step, run, handle}
+use Rattle.handler.specs.Kernel.{orWord, effect, step, run, handle}
 use Rattle.handler.specs.Translate.{compileRule, translate}
 use Rattle.handler.specs.Reading.{Reading, computed, readings, standardTable}
 

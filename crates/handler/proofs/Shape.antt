@@ -1,17 +1,16 @@
 -- How long a translated table is, and that its jumps go forward or to −1.
 -- Assumes nothing.
-use mathlib.Core.Path.{_≡_, refl, sym, ap, _∙_}
+use mathlib.Core.Path.{_≡_, refl}
 use mathlib.Core.List.{List, [], _∷_, _++_, map}
-use Prim.Native.Nat.{ℕ, zero, suc, _+_, _*_, _≤_}
+use Prim.Native.Nat.{ℕ, _+_, _*_, _≤_}
 use native.Mathlib.Omega.{arith}
-use lib.IntN.{ℤ, pos, negsuc}
 use lib.ListN.{length, length-append, length-map}
 use Rattle.policy.specs.Expression.{LabelExpr, empty, place, input1, input2, input3, join, Condition, flows, always, both, either, Rule, Table}
-use Rattle.handler.specs.Kernel.{Instruction, Add, Sub, Or, Load, Store, Dup, Swap, Jump, Ret, Push, Bnz}
+use Rattle.handler.specs.Kernel.{Instruction}
 use Rattle.handler.specs.Translate.{compileLabel, compileCondition, compileAnswer, compileIf, compileRule, guarded, slots, concat}
 use Rattle.handler.specs.Translate.{dispatch, translate}
 use Rattle.handler.specs.WellFormed.{labelSize, conditionSize, ruleSize, tableSize, WellFormed}
-use Rattle.handler.specs.Claim.{Forward, none, straight, branch, deny, Straight}
+use Rattle.handler.specs.Claim.{Forward, none, straight, branch, deny}
 use Rattle.handler.proofs.Dispatch.{slots-length}
 
 -- ════════════════════════════════════════════════════════════════════════════════════════════

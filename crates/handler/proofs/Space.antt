@@ -1,12 +1,12 @@
 -- The handler space: as long as two words an instruction, and its words give the instructions back.
 -- Assumes nothing.
-use mathlib.Core.Path.{_≡_, refl, sym, ap, _∙_}
+use mathlib.Core.Path.{_≡_, refl, ap}
 use mathlib.Core.List.{List, [], _∷_, _++_}
-use mathlib.Core.Option.{Option, some}
+use mathlib.Core.Option.{some}
 use Prim.Native.Nat.{ℕ, zero, suc, _+_, _*_, _<_}
 use native.Mathlib.Omega.{arith}
 use lib.IntN.{ℤ, pos}
-use lib.ListN.{length, getElem?, getD}
+use lib.ListN.{length, getElem?}
 use Rattle.word.specs.Lay.{laid}
 use Rattle.handler.specs.Kernel.{Instruction, Add, Sub, Or, Load, Store, Dup, Swap, Jump, Ret, Push, Bnz}
 use Rattle.handler.specs.Space.{codeOf, operand, kernelWords, known, instructionAt}

@@ -1,16 +1,16 @@
 -- What Or, Sub and Add do to labels and small numbers.
 -- Assumes nothing.
-use mathlib.Core.Path.{_≡_, refl, sym, ap, _∙_}
+use mathlib.Core.Path.{_≡_, sym, ap}
 use mathlib.Core.Bool.{_&&_}
-use Prim.Native.Nat.{ℕ, zero, suc, _+_, _-_, _%_, _^_, _<_, _≤_}
+use Prim.Native.Nat.{ℕ, zero, suc, _+_, _-_, _%_, _^_, _≤_}
 use native.Mathlib.Nat.{mod-eq-of-lt}
 use native.Mathlib.Omega.{arith}
-use lib.IntN.{ℤ, pos, negsuc, _+ℤ_, _-ℤ_}
-use lib.Bits.{bitOr, bitAnd, or-add-and, and-le-l}
+use lib.IntN.{pos, _-ℤ_}
+use lib.Bits.{or-add-and, and-le-l}
 use lib.Dec.{eqb, eqb·suc-zero}
 use borrow.Author.Tests.{le-ltb, ne-eqb}
 use mir.Facts.{yes-eqb, eqb-yes}
-use Rattle.word.specs.Wrap.{residue, signed, addWrap, subWrap}
+use Rattle.word.specs.Wrap.{residue, addWrap, subWrap}
 use Rattle.word.proofs.Laws.Wrap.{signed-lower, wrap-id}
 use Rattle.word.proofs.Bool.{bool-ext}
 use Rattle.label.specs.Label.{InRange, join}

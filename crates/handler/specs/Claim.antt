@@ -1,5 +1,5 @@
 -- What the handler of a rule table does, as document 01's tag engine wants it; proofs/Handler.antt shows it of every well-formed table.
-use Prim.Native.Nat.{ℕ, suc, _≤_, _<_}
+use Prim.Native.Nat.{ℕ, suc, _≤_}
 use mathlib.Core.Path.{_≡_}
 use mathlib.Core.List.{List, [], _∷_}
 use lib.IntN.{ℤ, pos, negsuc}

@@ -1,10 +1,10 @@
 -- The kernel of document 01: the commands of a fault handler (kernel instructions), and how they run over the seven words of the rule
 -- memory (the row). They act as on sheets, without labels.
-use Prim.Native.Nat.{ℕ, zero, suc, _+_}
+use Prim.Native.Nat.{ℕ, zero, suc}
 use mathlib.Core.Bool.{Bool, true, false}
 use mathlib.Core.List.{List, [], _∷_}
 use mathlib.Core.Option.{Option, none, some}
-use lib.IntN.{ℤ, pos, negsuc, _+ℤ_}
+use lib.IntN.{ℤ, pos, negsuc}
 use lib.ListN.{length, getElem?, set}
 use lib.Dec.{ltb}
 use lib.Bits.{bitOr}

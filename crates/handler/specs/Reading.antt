@@ -2,11 +2,11 @@
 -- proofs/Readings.antt computes them.
 use Prim.Native.Nat.{ℕ}
 use mathlib.Core.List.{List, [], _∷_}
-use lib.IntN.{ℤ, pos, negsuc}
+use lib.IntN.{pos}
 use Rattle.program.specs.Command.{Opcode, add, sub, pop, output, push, load, store, jump, bnz, call, ret}
 use Rattle.machine.specs.Rule.{Input, present, missing, Key}
 use Rattle.policy.specs.Expression.{LabelExpr, empty, place, input1, input2, input3, join, Condition, flows, always, Rule, Table}
-use Rattle.handler.specs.Kernel.{Outcome, returned, denied, Result, handle}
+use Rattle.handler.specs.Kernel.{returned, denied, Result, handle}
 use Rattle.handler.specs.Translate.{translate}
 use Rattle.handler.specs.Row.{row, faultRow}
 

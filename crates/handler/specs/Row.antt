@@ -1,7 +1,6 @@
 -- The row of the rule memory: code, P, L1, L2, L3, new place label, result label; missing inputs are −1.
 use mathlib.Core.Bool.{Bool, true, false}
 use mathlib.Core.List.{List, [], _∷_}
-use Prim.Native.Nat.{ℕ}
 use lib.IntN.{ℤ, pos, negsuc}
 use lib.Dec.{ltb}
 use Rattle.program.specs.Command.{codeOf}

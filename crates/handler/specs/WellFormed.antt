@@ -1,8 +1,8 @@
 -- What document 01 wants of a rule table, of its expressions: eleven rules, at most 512 bytes as written, expressions at most 8 deep, and
 -- inputs named only where the command supplies them.
-use Prim.Native.Nat.{ℕ, zero, suc, _+_, max, _≤_}
+use Prim.Native.Nat.{ℕ, suc, _+_, max, _≤_}
 use mathlib.Core.Path.{_≡_}
-use mathlib.Core.List.{List, [], _∷_}
+use mathlib.Core.List.{[], _∷_}
 use mathlib.Core.Option.{Option, none, some}
 use lib.ListN.{length}
 use Rattle.program.specs.Command.{Opcode, add, sub, pop, output, push, load, store, jump, bnz, call, ret}
