@@ -13,7 +13,7 @@ use lib.Dec.{ltb}
 use borrow.Author.Tests.{ltb-true}
 use Rattle.machine.specs.Step.{branch}
 use Rattle.handler.specs.Kernel.{Instruction, Add, Sub, Or, Load, Store, Dup, Swap, Jump, Ret, Push, Bnz}
-use Rattle.handler.specs.Kernel.{returned, denied, failed, Effect, ends, goes, Kernel, Result, stackLimit}
+use Rattle.handler.specs.Kernel.{returned, denied, failed, Effect, ends, goes, Code, Kernel, Result, stackLimit}
 use Rattle.handler.specs.Kernel.{withValue, withValues, withElement, withWord, provided, pushing, jumping}
 use Rattle.handler.specs.Kernel.{effect, effectAt, step, after, run, handle, start}
 use Rattle.handler.specs.Claim.{Reaches, here, next}
@@ -96,10 +96,10 @@ element-keeps : (o : Option Instruction) (x : Kernel) → Keeps (x .place) (x .s
 element-keeps none x = tt
 element-keeps (some i) x = effect-keeps (x .place) (x .row) i (x .stack)
 
-module _ (code : List Instruction) where
+module _ (code : Code) where
   step-keeps : (x : Kernel) → Keeps (x .place) (x .stack) (x .row) (step code x)
   unfolding step
-  step-keeps x = element-keeps (getElem? code (x .place)) x
+  step-keeps x = element-keeps (code (x .place)) x
 
   pub step-kept : (x : Kernel) {p : ℕ} {s w : List ℤ} → step code x ≡ goes p s w → Kept (x .place) (x .stack) (x .row) p s w
   step-kept x e = rw e at (step-keeps x)
@@ -127,10 +127,10 @@ module _ (code : List Instruction) where
           let l = h (record { place = p; stack = s; row = w; steps = suc (x .steps) }) in
           record { steps = omega (arith, l .steps); words = l .words ∙ k .words }
 
-  pub handle-steps : (w : List ℤ) → handle code w .steps ≤ length code
-  unfolding handle
-  handle-steps w = omega (arith, run-left (length code) (start w) .steps)
+pub handle-steps : (code : List Instruction) (w : List ℤ) → handle code w .steps ≤ length code
+unfolding handle
+handle-steps code w = omega (arith, run-left (getElem? code) (length code) (start w) .steps)
 
-  pub handle-words : (w : List ℤ) → length (handle code w .row) ≡ length w
-  unfolding handle
-  handle-words w = run-left (length code) (start w) .words
+pub handle-words : (code : List Instruction) (w : List ℤ) → length (handle code w .row) ≡ length w
+unfolding handle
+handle-words code w = run-left (getElem? code) (length code) (start w) .words

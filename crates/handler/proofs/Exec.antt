@@ -76,11 +76,11 @@ module _ (code : List Instruction) where
   -- a run with this fuel has the meaning of the instructions from its place on
   abbrev Means : ℕ → Type 0
   Means fuel = (p : ℕ) (s w : List ℤ) (k : ℕ) → length code ≤ p + fuel
-      → endingOf (run code fuel (state p s w k)) ≡ exec (length code) (drop p code) 0 s w
+      → endingOf (run (getElem? code) fuel (state p s w k)) ≡ exec (length code) (drop p code) 0 s w
 
   module _ (fuel : ℕ) (means : Means fuel) (p : ℕ) (s w : List ℤ) (k : ℕ) (h : length code ≤ p + suc fuel) where
     by-effect : (rest : List Instruction) → drop (suc p) code ≡ rest → (e : Effect) → Keeps p s w e
-        → endingOf (after e (state p s w k) (λ y. run code fuel y))
+        → endingOf (after e (state p s w k) (λ y. run (getElem? code) fuel y))
         ≡ resume e w (λ q t v. exec (length code) rest (q - suc p) t v)
     by-effect rest d (ends o) kept = ended-ending o (state p s w k)
     by-effect rest d (goes q t v) kept =
@@ -89,7 +89,7 @@ module _ (code : List Instruction) where
         ∙ rw (exec-skip (length code) rest (q - suc p) t v, ← d, drop-drop (q - suc p) (suc p) code, e)
 
     by-rest : (l : List Instruction) → drop p code ≡ l
-        → endingOf (run code (suc fuel) (state p s w k)) ≡ exec (length code) l 0 s w
+        → endingOf (run (getElem? code) (suc fuel) (state p s w k)) ≡ exec (length code) l 0 s w
     unfolding run step exec
     by-rest [] d = rw (element-none code p d)
     by-rest (i ∷ rest) d =

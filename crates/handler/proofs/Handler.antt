@@ -7,7 +7,7 @@ use mathlib.Core.Option.{Option, none, some}
 use Prim.Native.Nat.{ℕ, suc, _-_, _<_, _≤_}
 use native.Mathlib.Omega.{arith}
 use lib.IntN.{ℤ, pos}
-use lib.ListN.{length}
+use lib.ListN.{length, getElem?}
 use borrow.Author.Tests.{lt-ltb}
 use Rattle.label.specs.Label.{InRange}
 use Rattle.program.specs.Command.{Opcode, codeOf, add, sub, pop, output, push, load, store, jump, bnz, call, ret}
@@ -86,5 +86,5 @@ pub handler-steps : (t : Table) (w : List ℤ) → handle (translate t) w .steps
 handler-steps t w = handle-steps (translate t) w
 
 -- and the stack never holds more than 64
-pub handler-stack : (t : Table) (w : List ℤ) {y : Kernel} → Reaches (translate t) (start w) y → length (y .stack) ≤ 64
-handler-stack t w r = reaches-stack (translate t) r (omega arith)
+pub handler-stack : (t : Table) (w : List ℤ) {y : Kernel} → Reaches (getElem? (translate t)) (start w) y → length (y .stack) ≤ 64
+handler-stack t w r = reaches-stack (getElem? (translate t)) r (omega arith)

@@ -1,15 +1,19 @@
 -- The handler space: as long as two words an instruction, and its words give the instructions back.
 -- Assumes nothing.
-use mathlib.Core.Path.{_≡_, refl, ap}
+use mathlib.Core.Path.{_≡_, refl, sym, ap, fun-ext}
+use mathlib.Core.Bool.{Bool, true, false}
 use mathlib.Core.List.{List, [], _∷_, _++_}
-use mathlib.Core.Option.{some}
-use Prim.Native.Nat.{ℕ, zero, suc, _+_, _*_, _<_}
+use mathlib.Core.Option.{none, some}
+use Prim.Native.Nat.{ℕ, zero, suc, _+_, _*_, _<_, _≤_}
 use native.Mathlib.Omega.{arith}
 use lib.IntN.{ℤ, pos}
 use lib.ListN.{length, getElem?}
+use lib.Dec.{ltb}
+use borrow.Author.Tests.{ltb-true, ltb-false}
 use Rattle.word.specs.Lay.{laid}
 use Rattle.handler.specs.Kernel.{Instruction, Add, Sub, Or, Load, Store, Dup, Swap, Jump, Ret, Push, Bnz}
-use Rattle.handler.specs.Space.{codeOf, operand, kernelWords, known, instructionAt}
+use Rattle.handler.specs.Kernel.{Code, run, handle, start}
+use Rattle.handler.specs.Space.{codeOf, operand, kernelWords, known, instructionAt, heldIf, held, handleSpace}
 
 pub kernelWords-length : (code : List Instruction) → length (kernelWords code) ≡ 2 * length code
 unfolding kernelWords
@@ -51,3 +55,21 @@ pub instructionAt-laid : (code : List Instruction) (old : List ℤ) (i : ℕ) �
     → instructionAt (laid (kernelWords code) old) i ≡ getElem? code i
 unfolding laid
 instructionAt-laid code old i h = words-at code _ i h
+
+element-outside : (code : List Instruction) (i : ℕ) → length code ≤ i → getElem? code i ≡ none
+element-outside [] i h = refl
+element-outside (a ∷ code) zero h = absurd (omega arith)
+element-outside (a ∷ code) (suc i) h = element-outside code i (omega arith)
+
+held-laid : (code : List Instruction) (old : List ℤ) (i : ℕ) → held (laid (kernelWords code) old) (length code) i ≡ getElem? code i
+held-laid code old i = by (ltb i (length code)) refl
+  where
+    by : (b : Bool) → ltb i (length code) ≡ b → heldIf b (instructionAt (laid (kernelWords code) old) i) ≡ getElem? code i
+    by true e = instructionAt-laid code old i (ltb-true i (length code) e)
+    by false e = sym (element-outside code i (ltb-false i (length code) e))
+
+-- and runs as it does
+pub handleSpace-laid : (code : List Instruction) (old row : List ℤ)
+    → handleSpace (laid (kernelWords code) old) (length code) row ≡ handle code row
+unfolding handleSpace handle
+handleSpace-laid code old row = ap (λ (c : Code). run c (length code) (start row)) (fun-ext (held-laid code old))

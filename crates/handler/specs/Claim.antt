@@ -1,4 +1,5 @@
--- What the handler of a rule table does, as document 01's tag engine wants it; proofs/Handler.antt shows it of every well-formed table.
+-- What the handler of a rule table does, as document 01 wants it of the tag engine; proofs/Handler.antt and proofs/Shape.antt show it of
+-- every well-formed table.
 use Prim.Native.Nat.{ℕ, suc, _≤_}
 use mathlib.Core.Path.{_≡_}
 use mathlib.Core.List.{List, [], _∷_}
@@ -8,7 +9,7 @@ use Rattle.machine.specs.Rule.{Key, Verdict, denied, allowed}
 use Rattle.policy.specs.Expression.{Table}
 use Rattle.policy.specs.Evaluate.{evaluate}
 use Rattle.handler.specs.Kernel.{Instruction, Add, Sub, Or, Load, Store, Dup, Swap, Jump, Ret, Push, Bnz}
-use Rattle.handler.specs.Kernel.{Outcome, returned, goes, Kernel, step, Result}
+use Rattle.handler.specs.Kernel.{Outcome, returned, goes, Code, Kernel, step, Result}
 use Rattle.handler.specs.Kernel as Kernel
 use Rattle.handler.specs.Translate.{translate}
 use Rattle.handler.specs.Row.{row, faultRow}
@@ -30,7 +31,7 @@ pub record Handled (t : Table) (k : Key) (x : Result) : Type 0 where
   pub steps : x .steps ≤ length (translate t)
 
 -- the states that a run goes through from x
-pub data Reaches (code : List Instruction) (x : Kernel) : Kernel → Type 0 where
+pub data Reaches (code : Code) (x : Kernel) : Kernel → Type 0 where
   here : Reaches code x x
   next : {y : Kernel} {p : ℕ} {s w : List ℤ} → Reaches code x y → step code y ≡ goes p s w
       → Reaches code x (record { place = p; stack = s; row = w; steps = suc (y .steps) })

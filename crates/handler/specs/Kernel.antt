@@ -118,19 +118,23 @@ abbrev pub effectAt : Option Instruction → Kernel → Effect
 effectAt none x = ends failed
 effectAt (some i) x = effect i (x .place) (x .stack) (x .row)
 
+-- instructions by their places
+abbrev pub Code : Type 0
+Code = ℕ → Option Instruction
+
 -- what the instruction at the place does
-unfoldable pub step : List Instruction → Kernel → Effect
-step code x = effectAt (getElem? code (x .place)) x
+unfoldable pub step : Code → Kernel → Effect
+step code x = effectAt (code (x .place)) x
 
 abbrev pub after : Effect → Kernel → (Kernel → Result) → Result
 after (ends o) x k = ended o x
 after (goes p s w) x k = k (record { place = p; stack = s; row = w; steps = suc (x .steps) })
 
 -- at most `fuel` instructions are carried out
-unfoldable pub run : List Instruction → ℕ → Kernel → Result
+unfoldable pub run : Code → ℕ → Kernel → Result
 run code zero x = ended failed x
 run code (suc fuel) x = after (step code x) x (λ y. run code fuel y)
 
 -- a handler on a row: it may take as many steps as it has instructions
 unfoldable pub handle : List Instruction → List ℤ → Result
-handle code row = run code (length code) (start row)
+handle code row = run (getElem? code) (length code) (start row)

@@ -1,10 +1,13 @@
 -- The handler space: two words an instruction, its code and its operand or 0.
 use Prim.Native.Nat.{ℕ, _+_, _*_}
+use mathlib.Core.Bool.{Bool, true, false}
 use mathlib.Core.List.{List, [], _∷_}
 use mathlib.Core.Option.{Option, none, some}
 use lib.IntN.{ℤ, pos, negsuc}
 use lib.ListN.{getD}
+use lib.Dec.{ltb}
 use Rattle.handler.specs.Kernel.{Instruction, Add, Sub, Or, Load, Store, Dup, Swap, Jump, Ret, Push, Bnz}
+use Rattle.handler.specs.Kernel.{Code, Result, run, start}
 
 -- the codes that sheets have, then 0c to 0e
 abbrev pub codeOf : Instruction → ℕ
@@ -49,6 +52,18 @@ unfoldable pub known : ℤ → ℤ → Option Instruction
 known (pos code) n = getD (byCode n) code none
 known (negsuc code) n = none
 
--- the instruction at a place of a space
+-- the instruction at a place
 abbrev pub instructionAt : List ℤ → ℕ → Option Instruction
 instructionAt space i = known (getD space (2 * i) (pos 0)) (getD space (2 * i + 1) (pos 0))
+
+-- the instructions of a space that holds `count` of them
+abbrev pub heldIf : Bool → Option Instruction → Option Instruction
+heldIf true o = o
+heldIf false o = none
+
+abbrev pub held : List ℤ → ℕ → Code
+held space count i = heldIf (ltb i count) (instructionAt space i)
+
+-- running the handler that a space holds
+unfoldable pub handleSpace : List ℤ → ℕ → List ℤ → Result
+handleSpace space count row = run (held space count) count (start row)

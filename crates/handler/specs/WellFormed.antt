@@ -82,13 +82,13 @@ abbrev pub ruleInputs : Rule → ℕ
 ruleInputs r = max (conditionInputs (r .allowed)) (max (labelInputs (r .pc)) (labelInputs (r .result)))
 
 -- a rule that a command may have
-pub record Fits (o : Opcode) (r : Rule) : Type 0 where
+pub record RuleFits (o : Opcode) (r : Rule) : Type 0 where
   pub depth : ruleDepth r ≤ 8
   pub inputs : ruleInputs r ≤ supplies o
 
 abbrev pub HasRule : Opcode → Option Rule → Type 0
 HasRule o none = ⊥
-HasRule o (some r) = Fits o r
+HasRule o (some r) = RuleFits o r
 
 pub record WellFormed (t : Table) : Type 0 where
   pub rules : length t ≡ 11

@@ -1,2 +1,2 @@
-// The tag engine's fault handler: kernel instructions, the translation of a rule table, running a handler; definitions and theorems, no
-// code yet. Read in specs/: Kernel, Translate, Row; then Claim.
+// The tag engine's fault handler, as definitions and theorems; it has no code yet. Read in specs/: Kernel, Translate, WellFormed, Row;
+// then Claim; Space for the words that hold a handler, Reading for the kernel steps that the standard table takes.
