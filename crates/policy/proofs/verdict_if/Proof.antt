@@ -1,0 +1,14 @@
+-- `policy::verdict_if` meets its contract.
+-- Assumes nothing.
+use borrow.Author.Needs.{needs}
+use Rattle.policy.proofs.verdict_if.Statement.{statement}
+use Rattle.policy.proofs.verdict_if.Tie as tie
+
+returns : tie.Need-returns
+returns c = rw (c .if1 .taken)
+
+returns-2 : tie.Need-returns-2
+returns-2 c = search needs
+
+pub verdict-if-spec : {M : Type 1} → statement M
+verdict-if-spec = tie.close (tie.spec returns returns-2)
