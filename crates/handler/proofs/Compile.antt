@@ -17,7 +17,7 @@ use Rattle.policy.specs.Expression.{LabelExpr, empty, place, input1, input2, in
 use Rattle.policy.specs.Evaluate.{evalLabel, evalCondition}
 use Rattle.handler.specs.Kernel.{Instruction, Push, Bnz, stackLimit}
 use Rattle.handler.specs.Translate.{compileLabel, compileCondition}
-use Rattle.handler.specs.WellFormed.{labelDepth, conditionDepth, labelInputs, conditionInputs}
+use Rattle.policy.specs.Write.{labelDepth, conditionDepth, LabelSupplied, ConditionSupplied}
 use Rattle.handler.specs.Row.{row, inputWord}
 use Rattle.handler.proofs.Word.{orWord-join, join-le, join-zero, difference-zero, subWrap-pos}
 use Rattle.handler.proofs.Exec.{exec}
@@ -78,7 +78,7 @@ module _ (n m : ℕ) (k : Key) (reads : Reads m k) where
   -- Labels
   -- ══════════════════════════════════════════════════════════════════════════════════════════
 
-  pub label-range : (e : LabelExpr) → labelInputs e ≤ m → InRange (evalLabel k e)
+  pub label-range : (e : LabelExpr) → LabelSupplied m e → InRange (evalLabel k e)
   label-range empty h = omega arith
   label-range place h = reads .pc
   label-range input1 h = readable-range (k .input1) (reads .input1 h)
@@ -88,7 +88,7 @@ module _ (n m : ℕ) (k : Key) (reads : Reads m k) where
 
   -- beside the key's words the row may hold any two
   module _ (p r : ℤ) where
-    pub label-run : (e : LabelExpr) (rest : List Instruction) (s : List ℤ) → labelInputs e ≤ m → length s + labelDepth e ≤ stackLimit
+    pub label-run : (e : LabelExpr) (rest : List Instruction) (s : List ℤ) → LabelSupplied m e → length s + labelDepth e ≤ stackLimit
         → exec n (compileLabel e ++ rest) 0 s (row k p r) ≡ exec n rest 0 (pos (evalLabel k e) ∷ s) (row k p r)
     label-run empty rest s h d = exec-push n rest s (row k p r) (pos 0) (omega arith)
     label-run place rest s h d = exec-read n rest s (row k p r) 1 (pos (k .pc)) refl (omega arith)
@@ -100,56 +100,56 @@ module _ (n m : ℕ) (k : Key) (reads : Reads m k) where
         exec-read n rest s (row k p r) 4 (pos (labelOf (k .input3))) (ap some (readable-word (k .input3) (reads .input3 h))) (omega arith)
     label-run (join a b) rest s h d =
         simp append-assoc
-        (label-run a _ s (omega arith) (omega arith)
-        ∙ label-run b _ _ (omega arith) (omega arith)
+        (label-run a _ s (h .0) (omega arith)
+        ∙ label-run b _ _ (h .1) (omega arith)
         ∙ exec-or n rest s (row k p r) _ _
-        ∙ rw (orWord-join (evalLabel k b) (evalLabel k a) (label-range b (omega arith)) (label-range a (omega arith)), join-comm))
+        ∙ rw (orWord-join (evalLabel k b) (evalLabel k a) (label-range b (h .1)) (label-range a (h .0)), join-comm))
 
   -- ══════════════════════════════════════════════════════════════════════════════════════════
   -- Conditions
   -- ══════════════════════════════════════════════════════════════════════════════════════════
 
-  word-range : (c : Condition) → conditionInputs c ≤ m → InRange (conditionWord k c)
+  word-range : (c : Condition) → ConditionSupplied m c → InRange (conditionWord k c)
   word-range (flows a b) h = omega (arith, join-range (evalLabel k a) (evalLabel k b))
   word-range always h = omega arith
   word-range (both a b) h = join-range (conditionWord k b) (conditionWord k a)
-  word-range (either a b) h = unless-range (conditionWord k a) (conditionWord k b) (word-range b (omega arith))
+  word-range (either a b) h = unless-range (conditionWord k a) (conditionWord k b) (word-range b (h .1))
 
   -- zero means yes
-  pub word-holds : (c : Condition) → conditionInputs c ≤ m → evalCondition k c ≡ eqb (conditionWord k c) 0
+  pub word-holds : (c : Condition) → ConditionSupplied m c → evalCondition k c ≡ eqb (conditionWord k c) 0
   word-holds (flows a b) h =
-      flows-is-join (evalLabel k a) (evalLabel k b) (label-range b (omega arith))
-      ∙ difference-zero _ _ (join-le (evalLabel k a) (evalLabel k b) (label-range a (omega arith)) (label-range b (omega arith)))
+      flows-is-join (evalLabel k a) (evalLabel k b) (label-range b (h .1))
+      ∙ difference-zero _ _ (join-le (evalLabel k a) (evalLabel k b) (label-range a (h .0)) (label-range b (h .1)))
   word-holds always h = refl
   word-holds (both a b) h =
-      rw (word-holds a (omega arith), word-holds b (omega arith))
-      (join-zero (conditionWord k a) (conditionWord k b) (word-range a (omega arith)) (word-range b (omega arith)))
+      rw (word-holds a (h .0), word-holds b (h .1))
+      (join-zero (conditionWord k a) (conditionWord k b) (word-range a (h .0)) (word-range b (h .1)))
   word-holds (either a b) h =
-      rw (word-holds a (omega arith), word-holds b (omega arith)) (unless-zero (conditionWord k a) (conditionWord k b))
+      rw (word-holds a (h .0), word-holds b (h .1)) (unless-zero (conditionWord k a) (conditionWord k b))
 
   module _ (p r : ℤ) where
     pub condition-run : (c : Condition) (rest : List Instruction) (s : List ℤ)
-        → conditionInputs c ≤ m → length s + suc (conditionDepth c) ≤ stackLimit
+        → ConditionSupplied m c → length s + suc (conditionDepth c) ≤ stackLimit
         → exec n (compileCondition c ++ rest) 0 s (row k p r) ≡ exec n rest 0 (pos (conditionWord k c) ∷ s) (row k p r)
     condition-run (flows a b) rest s h d =
         simp append-assoc
-        (label-run p r b _ s (omega arith) (omega arith)
+        (label-run p r b _ s (h .1) (omega arith)
         ∙ exec-dup n _ s (row k p r) _ (omega arith)
-        ∙ label-run p r a _ _ (omega arith) (omega arith)
+        ∙ label-run p r a _ _ (h .0) (omega arith)
         ∙ exec-or n _ _ (row k p r) _ _
-        ∙ rw (orWord-join (evalLabel k a) (evalLabel k b) (label-range a (omega arith)) (label-range b (omega arith)))
+        ∙ rw (orWord-join (evalLabel k a) (evalLabel k b) (label-range a (h .0)) (label-range b (h .1)))
         (exec-sub n rest s (row k p r) _ _
         ∙ rw (subWrap-pos (Label.join (evalLabel k a) (evalLabel k b)) (evalLabel k b) (join-range _ _)
-        (join-le (evalLabel k a) (evalLabel k b) (label-range a (omega arith)) (label-range b (omega arith))))))
+        (join-le (evalLabel k a) (evalLabel k b) (label-range a (h .0)) (label-range b (h .1))))))
     condition-run always rest s h d = exec-push n rest s (row k p r) (pos 0) (omega arith)
     condition-run (both a b) rest s h d =
         simp append-assoc
-        (condition-run a _ s (omega arith) (omega arith)
-        ∙ condition-run b _ _ (omega arith) (omega arith)
+        (condition-run a _ s (h .0) (omega arith)
+        ∙ condition-run b _ _ (h .1) (omega arith)
         ∙ exec-or n rest s (row k p r) _ _
-        ∙ rw (orWord-join (conditionWord k b) (conditionWord k a) (word-range b (omega arith)) (word-range a (omega arith))))
+        ∙ rw (orWord-join (conditionWord k b) (conditionWord k a) (word-range b (h .1)) (word-range a (h .0))))
     condition-run (either a b) rest s h d =
         simp append-assoc
-        (condition-run a _ s (omega arith) (omega arith)
+        (condition-run a _ s (h .0) (omega arith)
         ∙ either-run n (compileCondition b) rest s (row k p r) (conditionWord k a) (conditionWord k b) (omega arith)
-        (condition-run b rest s (omega arith) (omega arith)))
+        (condition-run b rest s (h .1) (omega arith)))

@@ -1,6 +1,7 @@
 -- A translated rule ends the handler as the rule says, and the dispatch chooses the rule of the code.
 -- Assumes nothing.
 use mathlib.Core.Path.{_≡_, refl, ap, _∙_}
+use mathlib.Core.Bool.{Bool, true, false}
 use mathlib.Core.List.{List, [], _∷_, _++_, append-assoc, map}
 use mathlib.Core.Option.{some}
 use Prim.Native.Nat.{ℕ, zero, suc, _+_, _^_, _<_, _≤_}
@@ -9,12 +10,14 @@ use lib.IntN.{ℤ, pos, negsuc}
 use lib.ListN.{length, getElem?, length-append}
 use lib.Dec.{eqb, eqb·suc-zero}
 use Rattle.word.specs.Wrap.{addWrap}
+use Rattle.program.specs.Command.{Opcode}
 use Rattle.machine.specs.Rule.{Key, Verdict, allowedIf}
-use Rattle.policy.specs.Expression.{Condition, flows, always, both, either, Rule, Table}
+use Rattle.policy.specs.Expression.{LabelExpr, Condition, flows, always, both, either, Rule, Table}
+use Rattle.policy.specs.Read.{supplies, hasResult}
+use Rattle.policy.specs.Write.{conditionDepth, ConditionSupplied, LabelWritable, ResultWritable, RuleWritable}
 use Rattle.policy.specs.Evaluate.{evalLabel, evalCondition, evalRule}
 use Rattle.handler.specs.Kernel.{Instruction, Jump, Push, Bnz, Dup, Add, returned}
 use Rattle.handler.specs.Translate.{read, compileAnswer, compileIf, compileRule, guarded, slots, concat, translate}
-use Rattle.handler.specs.WellFormed.{ruleDepth, ruleInputs, conditionDepth, conditionInputs}
 use Rattle.handler.specs.Row.{row, faultRow}
 use Rattle.handler.specs.Claim.{outcomeOf, rowOf}
 use Rattle.handler.proofs.Exec.{exec, Ending, ending}
@@ -32,13 +35,13 @@ endingFor k v = ending (outcomeOf v) (rowOf k v)
 -- ════════════════════════════════════════════════════════════════════════════════════════════
 
 module _ (n m : ℕ) (k : Key) (reads : Reads m k) where
-  answer-run : (a : Rule) (rest : List Instruction) → ruleInputs a ≤ m → ruleDepth a ≤ 8
+  answer-run : (a : Rule) (rest : List Instruction) → LabelWritable m (a .pc) → LabelWritable m (a .result)
       → exec n (compileAnswer a ++ rest) 0 [] (faultRow k)
       ≡ ending returned (row k (pos (evalLabel k (a .pc))) (pos (evalLabel k (a .result))))
-  answer-run a rest h d =
+  answer-run a rest h g =
       simp append-assoc
-      (label-run n m k reads (negsuc 0) (negsuc 0) (a .pc) _ [] (omega arith) (omega arith)
-      ∙ label-run n m k reads (negsuc 0) (negsuc 0) (a .result) _ _ (omega arith) (omega arith)
+      (label-run n m k reads (negsuc 0) (negsuc 0) (a .pc) _ [] (h .1) (omega (arith, h .0))
+      ∙ label-run n m k reads (negsuc 0) (negsuc 0) (a .result) _ _ (g .1) (omega (arith, g .0))
       ∙ exec-push n _ _ _ (pos 6) (omega arith)
       ∙ exec-store n _ _ _ 6 _ _ refl
       ∙ exec-push n _ _ _ (pos 5) (omega arith)
@@ -57,26 +60,31 @@ module _ (n m : ℕ) (k : Key) (reads : Reads m k) where
         rw (eqb·suc-zero x)
         (exec-bnz n _ [] _ x (length code) ∙ exec-over n code _ [] _ ∙ exec-denied n rest [] _ (omega arith))
 
-    guarded-run : (c : Condition) (rest : List Instruction) → conditionInputs c ≤ m → conditionDepth c ≤ 8
+    guarded-run : (c : Condition) (rest : List Instruction) → ConditionSupplied m c → conditionDepth c ≤ 8
         → exec n (guarded c code ++ rest) 0 [] (faultRow k) ≡ endingFor k (allowedIf (evalCondition k c) p r)
     guarded-run c rest h d =
         simp append-assoc
         (condition-run n m k reads (negsuc 0) (negsuc 0) c _ [] h (omega arith)
         ∙ rw (word-holds n m k reads c h) (tested-run (conditionWord k c) rest))
 
-    if-run : (c : Condition) (rest : List Instruction) → conditionInputs c ≤ m → conditionDepth c ≤ 8
+    if-run : (c : Condition) (rest : List Instruction) → ConditionSupplied m c → conditionDepth c ≤ 8
         → exec n (compileIf c code ++ rest) 0 [] (faultRow k) ≡ endingFor k (allowedIf (evalCondition k c) p r)
     if-run (flows a b) rest h d = guarded-run (flows a b) rest h d
     if-run always rest h d = answers rest
     if-run (both a b) rest h d = guarded-run (both a b) rest h d
     if-run (either a b) rest h d = guarded-run (either a b) rest h d
 
-  pub rule-run : (a : Rule) (rest : List Instruction) → ruleInputs a ≤ m → ruleDepth a ≤ 8
-      → exec n (compileRule a ++ rest) 0 [] (faultRow k) ≡ endingFor k (evalRule (some a) k)
-  unfolding compileRule
-  rule-run a rest h d =
-      if-run (evalLabel k (a .pc)) (evalLabel k (a .result)) (compileAnswer a) (λ more. answer-run a more h d)
-      (a .allowed) rest (omega arith) (omega arith)
+result-writable : (b : Bool) (m : ℕ) (e : LabelExpr) → ResultWritable b m e → LabelWritable m e
+result-writable true m e h = h
+result-writable false m e h = rw h (omega arith, tt)
+
+pub rule-run : (n : ℕ) (o : Opcode) (k : Key) (a : Rule) (rest : List Instruction) → Reads (supplies o) k → RuleWritable o a
+    → exec n (compileRule a ++ rest) 0 [] (faultRow k) ≡ endingFor k (evalRule (some a) k)
+unfolding compileRule
+rule-run n o k a rest reads w =
+    if-run n (supplies o) k reads (evalLabel k (a .pc)) (evalLabel k (a .result)) (compileAnswer a)
+    (λ more. answer-run n (supplies o) k reads a more (w .pc) (result-writable (hasResult o) (supplies o) (a .result) (w .result)))
+    (a .allowed) rest (w .supplied) (w .depth)
 
 -- ════════════════════════════════════════════════════════════════════════════════════════════
 -- The dispatch

@@ -1,15 +1,16 @@
 -- How long a translated table is, and that its jumps go forward or to −1.
 -- Assumes nothing.
-use mathlib.Core.Path.{_≡_, refl}
+use mathlib.Core.Path.{_≡_, refl, ap}
 use mathlib.Core.List.{List, [], _∷_, _++_, map}
-use Prim.Native.Nat.{ℕ, _+_, _*_, _≤_}
+use Prim.Native.Nat.{ℕ, suc, _+_, _*_, _≤_}
 use native.Mathlib.Omega.{arith}
 use lib.ListN.{length, length-append, length-map}
 use Rattle.policy.specs.Expression.{LabelExpr, empty, place, input1, input2, input3, join, Condition, flows, always, both, either, Rule, Table}
 use Rattle.handler.specs.Kernel.{Instruction}
 use Rattle.handler.specs.Translate.{compileLabel, compileCondition, compileAnswer, compileIf, compileRule, guarded, slots, concat}
 use Rattle.handler.specs.Translate.{dispatch, translate}
-use Rattle.handler.specs.WellFormed.{labelSize, conditionSize, ruleSize, tableSize, WellFormed}
+use Rattle.program.specs.Command.{Opcode, opcodes}
+use Rattle.policy.specs.Write.{writeLabel, writeCondition, writeTable, RulesWritable, TableWritable}
 use Rattle.handler.specs.Claim.{Forward, none, straight, branch, deny}
 use Rattle.handler.proofs.Dispatch.{slots-length}
 
@@ -17,7 +18,8 @@ use Rattle.handler.proofs.Dispatch.{slots-length}
 -- Length
 -- ════════════════════════════════════════════════════════════════════════════════════════════
 
-label-length : (e : LabelExpr) → length (compileLabel e) ≤ 2 * labelSize e
+label-length : (e : LabelExpr) → length (compileLabel e) ≤ 2 * length (writeLabel e)
+unfolding writeLabel
 label-length empty = omega arith
 label-length place = omega arith
 label-length input1 = omega arith
@@ -25,35 +27,46 @@ label-length input2 = omega arith
 label-length input3 = omega arith
 label-length (join a b) = simp length-append (omega (arith, label-length a, label-length b))
 
-condition-length : (c : Condition) → length (compileCondition c) ≤ 4 * conditionSize c
+condition-length : (c : Condition) → length (compileCondition c) ≤ 4 * length (writeCondition c)
+unfolding writeCondition
 condition-length (flows a b) = simp length-append (omega (arith, label-length a, label-length b))
 condition-length always = omega arith
 condition-length (both a b) = simp length-append (omega (arith, condition-length a, condition-length b))
 condition-length (either a b) = simp length-append (omega (arith, condition-length a, condition-length b))
 
-answer-length : (a : Rule) → length (compileAnswer a) ≤ 2 * labelSize (a .pc) + 2 * labelSize (a .result) + 5
+answer-length : (a : Rule) → length (compileAnswer a) ≤ 2 * length (writeLabel (a .pc)) + 2 * length (writeLabel (a .result)) + 5
 answer-length a = simp length-append (omega (arith, label-length (a .pc), label-length (a .result)))
 
-if-length : (c : Condition) (code : List Instruction) → length (compileIf c code) ≤ 4 * conditionSize c + length code + 3
+if-length : (c : Condition) (code : List Instruction) → length (compileIf c code) ≤ 4 * length (writeCondition c) + length code + 3
+unfolding writeCondition
 if-length (flows a b) code = simp length-append (omega (arith, label-length a, label-length b))
 if-length always code = omega arith
 if-length (both a b) code = simp length-append (omega (arith, condition-length a, condition-length b))
 if-length (either a b) code = simp length-append (omega (arith, condition-length a, condition-length b))
 
-rule-length : (a : Rule) → length (compileRule a) ≤ 4 * ruleSize a + 8
+rule-length : (a : Rule)
+    → length (compileRule a)
+    ≤ 4 * (length (writeCondition (a .allowed)) + (length (writeLabel (a .pc)) + length (writeLabel (a .result)))) + 8
 unfolding compileRule
 rule-length a = omega (arith, if-length (a .allowed) (compileAnswer a), answer-length a)
 
-bodies-length : (t : Table) → length (concat (map compileRule t)) ≤ 4 * tableSize t + 8 * length t
+bodies-length : (t : Table) → length (concat (map compileRule t)) ≤ 4 * length (writeTable t) + 8 * length t
+unfolding writeTable
 bodies-length [] = omega arith
 bodies-length (a ∷ t) = simp length-append (omega (arith, rule-length a, bodies-length t))
 
+rules-length : (os : List Opcode) (t : Table) → RulesWritable os t → length t ≡ length os
+rules-length [] [] w = refl
+rules-length [] (r ∷ t) w = absurd w
+rules-length (o ∷ os) [] w = absurd w
+rules-length (o ∷ os) (r ∷ t) w = ap suc (rules-length os t (w .1))
+
 -- at most 8,192 instructions
-pub handler-length : (t : Table) → WellFormed t → length (translate t) ≤ 8192
+pub handler-length : (t : Table) → TableWritable t → length (translate t) ≤ 8192
 unfolding translate
 handler-length t well =
     simp (length-append, slots-length, length-map)
-    (omega (arith, well .rules, well .size, bodies-length t))
+    (omega (arith, rules-length opcodes t (well .rules), well .size, bodies-length t))
 
 -- ════════════════════════════════════════════════════════════════════════════════════════════
 -- Jumps

@@ -1,5 +1,5 @@
 -- What the handler of a rule table does, as document 01 wants it of the tag engine; proofs/Handler.antt and proofs/Shape.antt show it of
--- every well-formed table.
+-- every rule table that can be written (TableWritable of the policy crate).
 use Prim.Native.Nat.{ℕ, suc, _≤_}
 use mathlib.Core.Path.{_≡_}
 use mathlib.Core.List.{List, [], _∷_}

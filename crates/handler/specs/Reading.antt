@@ -5,36 +5,11 @@ use mathlib.Core.List.{List, [], _∷_}
 use lib.IntN.{pos}
 use Rattle.program.specs.Command.{Opcode, add, sub, pop, output, push, load, store, jump, bnz, call, ret}
 use Rattle.machine.specs.Rule.{Input, present, missing, Key}
-use Rattle.policy.specs.Expression.{LabelExpr, empty, place, input1, input2, input3, join, Condition, flows, always, Rule, Table}
+use Rattle.policy.specs.Standard.{standardTable}
+use Rattle.policy.specs.Expression.{input1, input2, input3}
 use Rattle.handler.specs.Kernel.{returned, denied, Result, handle}
 use Rattle.handler.specs.Translate.{translate}
 use Rattle.handler.specs.Row.{row, faultRow}
-
--- ════════════════════════════════════════════════════════════════════════════════════════════
--- The standard table, as document 01 writes it
--- ════════════════════════════════════════════════════════════════════════════════════════════
-
-abbrev pub rule : Condition → LabelExpr → LabelExpr → Rule
-rule c p r = record { allowed = c; pc = p; result = r }
-
-abbrev pub standardTable : Table
-standardTable =
-    rule always place (join input1 input2)
-    ∷ rule always place (join input1 input2)
-    ∷ rule always place empty
-    ∷ rule always place (join input1 place)
-    ∷ rule always place empty
-    ∷ rule always place (join input1 input2)
-    ∷ rule (flows (join input1 place) input3) place (join (join input1 input2) place)
-    ∷ rule always (join input1 place) empty
-    ∷ rule always (join input1 place) empty
-    ∷ rule always (join input1 place) place
-    ∷ rule always input1 empty
-    ∷ []
-
--- ════════════════════════════════════════════════════════════════════════════════════════════
--- The readings
--- ════════════════════════════════════════════════════════════════════════════════════════════
 
 pub record Reading : Type 0 where
   pub key : Key

@@ -5,7 +5,7 @@ use lib.IntN.{ℤ, pos, negsuc}
 use lib.Dec.{ltb}
 use Rattle.program.specs.Command.{codeOf}
 use Rattle.machine.specs.Rule.{Input, present, missing, Key}
-use Rattle.handler.specs.WellFormed.{supplies}
+use Rattle.policy.specs.Read.{supplies}
 
 abbrev pub inputWord : Input → ℤ
 inputWord (present l) = pos l
