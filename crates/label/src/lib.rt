@@ -2,7 +2,7 @@
 ghost use mathlib.Core.Path.{_≡_};
 ghost use lib.IntN.{pos};
 ghost use Rattle.label.specs.Label as Labels;
-ghost use Rattle.label.specs.Word.{stored};
+ghost use Rattle.label.specs.Word.{stored, lowLabel};
 use word::number::Natural;
 
 // A label of document 01: bit i is principal i.
@@ -31,6 +31,13 @@ impl Label {
         ensures { λ r. ⌜ r ≡ pos (self .0) ⌝ }
     {
         self.0 as i64
+    }
+
+    // The label in a word that is known to store one: the lowest bits, with no test.
+    pub fn low(word: i64) -> Label
+        ensures { λ r. ⌜ r .0 ≡ lowLabel word ⌝ }
+    {
+        Label((word::wrap::to_bits(word) % 4294967296) as u32)
     }
 
     // The label that a word stores, if it is one.

@@ -5,3 +5,6 @@ pub mod Modulo
 pub mod Wrap
 pub mod Word
 pub mod Field
+pub mod Numeral
+pub mod Text
+pub mod Decimal

@@ -6,7 +6,7 @@ use Prim.Native.Nat.{ℕ, zero, suc, _+_, _<_, _≤_}
 use native.Mathlib.Nat.{add-zero, zero-add, add-suc, suc-add}
 use native.Mathlib.Omega.{arith}
 use lib.ListN.{length, take, drop, set, take-append-drop, length-append, length-take, length-drop}
-use lib.Seq.{take-suc-set, drop-set-lt, length-take-le}
+use lib.Seq.{take-suc-set, take-set-le, drop-set-lt, drop-cons, getD-set-same, lt-length-set, length-take-le}
 use Rattle.word.specs.Lay.{laid, laidAt}
 
 module _ {A : Type 0} where
@@ -23,6 +23,18 @@ module _ {A : Type 0} where
   unfolding laidAt
   laidAt-cons at x xs old h =
       rw (take-suc-set old at x h, drop-set-lt (suc at + length xs) old at x (omega arith), add-suc at (length xs), suc-add at (length xs)) (simp append-assoc)
+
+  -- or its last element stored, and the others laid before it
+  pub laidAt-snoc : (at : ℕ) (xs : List A) (x : A) (old : List A) → at + length xs < length old
+      → laidAt at (xs ++ (x ∷ [])) old ≡ laidAt at xs (set old (at + length xs) x)
+  unfolding laidAt
+  laidAt-snoc at xs x old h =
+      let j = at + length xs in
+      let e : drop j (set old j x) ≡ x ∷ drop (suc j) old =
+      drop-cons (set old j x) j x (lt-length-set old j x h)
+      ∙ rw (getD-set-same old j x x h, drop-set-lt (suc j) old j x (omega arith)) in
+      let n : at + length (xs ++ (x ∷ [])) ≡ suc j = simp length-append (omega arith) in
+      rw (e, n, take-set-le at old j x (omega arith)) (simp append-assoc)
 
   pub length-laidAt : (at : ℕ) (new old : List A) → at + length new ≤ length old → length (laidAt at new old) ≡ length old
   unfolding laidAt

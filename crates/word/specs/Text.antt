@@ -1,11 +1,11 @@
 -- Numbers as text: ASCII digits, the highest first.
-use Prim.Native.Nat.{ℕ, zero, suc, _+_, _/_}
+use Prim.Native.Nat.{ℕ, zero, suc, _+_, _-_, _/_}
 use mathlib.Core.Bool.{Bool, true, false}
 use mathlib.Core.List.{List, _∷_, map, reverse}
 use lib.IntN.{ℤ, pos, negsuc}
 use lib.ListN.{length}
 use lib.Dec.{ltb, leb}
-use Rattle.word.specs.Digits.{digitsOf}
+use Rattle.word.specs.Digits.{digitsOf, valueOf}
 use Rattle.word.specs.Lay.{laidAt}
 use Rattle.word.specs.declared.text.Put.{Put}
 use Rattle.word.specs.declared.text.Put.the-variants.{Next, NoRoom}
@@ -14,22 +14,34 @@ abbrev pub digitIf : Bool → ℕ → ℕ
 digitIf true d = 48 + d
 digitIf false d = 87 + d
 
+abbrev pub valueIf : Bool → ℕ → ℕ
+valueIf true c = c - 48
+valueIf false c = c - 87
+
 -- 0 to 9, then a to f
 unfoldable pub digitChar : ℕ → ℕ
 digitChar d = digitIf (ltb d 10) d
+
+-- the digit that a character is
+unfoldable pub digitValue : ℕ → ℕ
+digitValue c = valueIf (ltb c 97) c
 
 -- n in base b with k digits
 unfoldable pub numeral : ℕ → ℕ → ℕ → List ℕ
 numeral b k n = reverse (map digitChar (digitsOf b k n))
 
+-- the number that a numeral in base b gives
+unfoldable pub numeralValue : ℕ → List ℕ → ℕ
+numeralValue b text = valueOf b (map digitValue (reverse text))
+
+abbrev pub countIf : Bool → ℕ → ℕ
+countIf true rest = 1
+countIf false rest = suc rest
+
 -- how many digits n has in base b, at least one and at most 1 + fuel
 unfoldable pub digitCount : ℕ → ℕ → ℕ → ℕ
 digitCount b zero n = 1
-digitCount b (suc fuel) n = more (ltb n b) (digitCount b fuel (n / b))
-  where
-    more : Bool → ℕ → ℕ
-    more true rest = 1
-    more false rest = suc rest
+digitCount b (suc fuel) n = countIf (ltb n b) (digitCount b fuel (n / b))
 
 -- a natural number below 10^20 in decimal, with no leading zero
 unfoldable pub natural : ℕ → List ℕ

@@ -1,9 +1,9 @@
 // Fields of fixed width in a run of bytes: the operands on sheets, the numbers of a job. Read specs/Field.antt first.
+use crate::part::within;
 use crate::wrap::complement;
 ghost use mathlib.Core.Path.{_≡_};
 ghost use Prim.Native.Nat.{_+_, _<_, _≤_};
 ghost use lib.ListN.{length};
-ghost use lib.Dec.{leb};
 ghost use Rattle.word.specs.Field.{bitsAt, unsignedAt, signedAt};
 
 // A field's number, or that it is cut: fewer bytes are left than it has.
@@ -57,13 +57,6 @@ fn unsigned_at(s: &[u8], at: usize, width: usize) -> Field
     } else {
         Field::Cut
     }
-}
-
-// Do `size` bytes from `at` on lie within the first `len`? The sum is not formed: it may not fit.
-fn within(len: usize, at: usize, size: usize) -> bool
-    ensures { λ r. ⌜ r ≡ leb (at + size) len ⌝ }
-{
-    if len < size { false } else { at <= len - size }
 }
 
 // The little-endian number in so many bytes from a position on: the highest byte is the last.

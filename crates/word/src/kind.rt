@@ -1,5 +1,5 @@
-// Two of the three kinds of document 01 that never stand in for one another: command numbers and cell addresses. Each is a type, so
-// that none is taken for the other; the third kind, labels, is a crate of its own.
+// Two of the three kinds of document 01 that never stand in for one another: command numbers and cell addresses.
+// Each is a type, so that none is taken for another. The third kind, labels, is a crate of its own.
 use crate::number::Index;
 ghost use mathlib.Core.Path.{_≡_};
 ghost use Rattle.word.specs.Wrap.{addWrap};

@@ -1,6 +1,8 @@
 // Words of 64 bits and what is read from them and written of them. Read in specs/: Wrap, Number, Digits, Field, Text.
 pub mod field;
 pub mod kind;
+pub mod memory;
 pub mod number;
+mod part;
 pub mod text;
 pub mod wrap;

@@ -18,7 +18,7 @@ pub fn sub(a: i64, b: i64) -> i64
 }
 
 // A word's bits: -1 has them all, and -1 - n lacks those of n. Compiled, both branches are the word as it is.
-fn to_bits(word: i64) -> u64
+pub fn to_bits(word: i64) -> u64
     ensures { λ r. ⌜ r ≡ residue 64 word ⌝ }
 {
     if word < 0 {

@@ -1,13 +1,12 @@
--- Digits of a number over any base: a number below b^k is given back by its k digits, and digits below b by their number.
+-- Digits over any base b: a number below b^k is given back by its k digits, and digits below b by their number.
 -- Assumes nothing.
-use mathlib.Core.Path.{_≡_, refl, sym, ap, ap₂, subst, _∙_}
+use mathlib.Core.Path.{_≡_, refl, ap}
 use mathlib.Core.List.{List, [], _∷_}
-use Prim.Native.Nat.{ℕ, zero, suc, _+_, _*_, _/_, _%_, _^_, _<_, _≤_}
+use Prim.Native.Nat.{ℕ, zero, suc, _*_, _/_, _^_, _<_}
 use native.Mathlib.Nat.{mod-lt, pow-zero, pow-suc, pow-succ', mul-comm, add-comm, mod-add-div', div-lt-iff-lt-mul}
 use native.Mathlib.Omega.{arith}
 use lib.Arith as Arith
-use lib.ListN.{length, getD, take, drop}
-use lib.Seq.{drop-cons}
+use lib.ListN.{length, getD}
 use Rattle.word.specs.Digits.{digitsOf, valueOf}
 
 -- digits of base b

@@ -1,21 +1,18 @@
 -- Fields over their width k in bytes: the bytes of a number are read back as the number.
 -- Assumes nothing.
 use mathlib.Core.Path.{_≡_, refl, sym, ap, _∙_}
-use mathlib.Core.Bool.{Bool, true, false}
-use mathlib.Core.List.{List, [], _∷_, _++_, append-assoc}
-use Prim.Native.Nat.{ℕ, zero, suc, _+_, _*_, _-_, _%_, _^_, _<_, _≤_}
-use native.Mathlib.Nat.{pow-zero, pow-suc, pow-le-pow-right, mul-suc, mod-eq-of-lt, add-comm}
+use mathlib.Core.List.{List, _++_, append-assoc}
+use Prim.Native.Nat.{ℕ, zero, suc, _+_, _*_, _-_, _^_, _<_, _≤_}
+use native.Mathlib.Nat.{pow-suc, mul-suc, mod-eq-of-lt, add-comm}
 use native.Mathlib.Omega.{arith}
-use lib.IntN.{ℤ, pos, negsuc}
+use lib.IntN.{ℤ, pos}
 use lib.Pow.{pow-add, pow-mono}
-use lib.Dec.{leb}
 use lib.ListN.{length, getD, take, drop, length-append, length-drop}
 use lib.Seq.{drop-cons, take-append-seam, drop-append-seam, length-take-le, getD-take, getD-drop}
 use borrow.Author.Tests.{le-leb, lt-leb}
 use Rattle.word.specs.Wrap.{Signed, residue, signed}
-use Rattle.word.specs.Digits.{digitsOf, valueOf}
-use Rattle.word.specs.Field.{bitsAt, whole, unsignedAt, signedAt, bytesOf}
-use Rattle.word.specs.declared.field.Field.{Field}
+use Rattle.word.specs.Digits.{valueOf}
+use Rattle.word.specs.Field.{bitsAt, unsignedAt, signedAt, bytesOf}
 use Rattle.word.specs.declared.field.Field.the-variants.{Number, Cut}
 use Rattle.word.proofs.Laws.Digits.{Below, valueOf-lt, digits-length, digits-lt, digits-value}
 use Rattle.word.proofs.Laws.Wrap.{residue-lt, signed-residue}
@@ -24,67 +21,78 @@ pub pow-bytes : (k : ℕ) → 256 ^ k ≡ 2 ^ (8 * k)
 pow-bytes zero = refl
 pow-bytes (suc k) = pow-suc 256 k ∙ rw (pow-bytes k, mul-suc 8 k) (sym (pow-add 2 (8 * k) 8))
 
+-- a run of bytes, as a slice's rule says it
+abbrev pub Bytes : List ℕ → Type 0
+Bytes s = (i : ℕ) → getD s i 0 < 256
+
 -- ════════════════════════════════════════════════════════════════════════════════════════════
--- The number in the bytes from a position on
+-- The number in the k bytes from a position on
 -- ════════════════════════════════════════════════════════════════════════════════════════════
 
 pub bitsAt-none : (s : List ℕ) (at : ℕ) → bitsAt 0 s at ≡ 0
 unfolding bitsAt valueOf
 bitsAt-none s at = refl
 
-pub bitsAt-cons : (k : ℕ) (s : List ℕ) (at : ℕ) → at < length s → bitsAt (suc k) s at ≡ bitsAt k s (suc at) * 256 + getD s at 0
+pub bitsAt-cons : (k : ℕ) (s : List ℕ) (at : ℕ) → at < length s
+    → bitsAt (suc k) s at ≡ bitsAt k s (suc at) * 256 + getD s at 0
 unfolding bitsAt valueOf
-bitsAt-cons k s at h = rw (drop-cons s at 0 h) (add-comm (getD s at 0) (valueOf 256 (take k (drop (suc at) s)) * 256))
+bitsAt-cons k s at h =
+    rw (drop-cons s at 0 h) (add-comm (getD s at 0) (valueOf 256 (take k (drop (suc at) s)) * 256))
 
-pub bitsAt-lt : (k : ℕ) (s : List ℕ) (at : ℕ) → at + k ≤ length s → ((i : ℕ) → getD s i 0 < 256) → bitsAt k s at < 2 ^ (8 * k)
+pub bitsAt-lt : (k : ℕ) (s : List ℕ) (at : ℕ) → at + k ≤ length s → Bytes s → bitsAt k s at < 2 ^ (8 * k)
 unfolding bitsAt
 bitsAt-lt k s at h f =
-    let e : length (take k (drop at s)) ≡ k = length-take-le k (drop at s) (rw (length-drop at s) (omega arith)) in
-    rw (← pow-bytes k) (rw e at (valueOf-lt 256 (take k (drop at s))
-    (λ i l. rw (getD-take k (drop at s) i 0 (rw e at l), getD-drop at s i 0) (f (at + i)))))
+    let part = take k (drop at s) in
+    let e : length part ≡ k = length-take-le k (drop at s) (rw (length-drop at s) (omega arith)) in
+    let below : Below 256 part =
+    λ i l. rw (getD-take k (drop at s) i 0 (rw e at l), getD-drop at s i 0) (f (at + i)) in
+    rw (← pow-bytes k) (rw e at (valueOf-lt 256 part below))
 
--- up to eight bytes fit a word's bits
-pub bitsAt-word : (k : ℕ) (s : List ℕ) (at : ℕ) → k ≤ 8 → at + k ≤ length s → ((i : ℕ) → getD s i 0 < 256) → bitsAt k s at < 2 ^ 64
-bitsAt-word k s at p h f = omega (arith, bitsAt-lt k s at h f, pow-mono {i = 8 * k} {j = 64} (omega arith))
-
--- up to seven fit its lower half
-pub bitsAt-half : (k : ℕ) (s : List ℕ) (at : ℕ) → k < 8 → at + k ≤ length s → ((i : ℕ) → getD s i 0 < 256) → bitsAt k s at < 2 ^ 63
+-- up to seven bytes fit the lower half of a word
+pub bitsAt-half : (k : ℕ) (s : List ℕ) (at : ℕ) → k < 8 → at + k ≤ length s → Bytes s → bitsAt k s at < 2 ^ 63
 bitsAt-half k s at p h f = omega (arith, bitsAt-lt k s at h f, pow-mono {i = 8 * k} {j = 63} (omega arith))
 
 -- the loop that reads a field goes down from its last byte: n is the number in the bytes from i on
-module _ (s : List ℕ) (at k i n : ℕ) (p : 0 < i) (h : i ≤ k) (l : at + k ≤ length s) (e : n ≡ bitsAt (k - i) s (at + i)) where
+module _ (s : List ℕ) (at k i n : ℕ) (p : 0 < i) (h : i ≤ k) (l : at + k ≤ length s)
+    (e : n ≡ bitsAt (k - i) s (at + i)) where
   pub bitsAt-down : n * 256 + getD s (at + (i - 1)) 0 ≡ bitsAt (k - (i - 1)) s (at + (i - 1))
   bitsAt-down =
       let m : k - (i - 1) ≡ suc (k - i) = omega arith in
       let o : at + i ≡ suc (at + (i - 1)) = omega arith in
       rw (e, m, o) (sym (bitsAt-cons (k - i) s (at + (i - 1)) (omega arith)))
 
-  pub bitsAt-room : k ≤ 8 → ((j : ℕ) → getD s j 0 < 256) → n * 256 + getD s (at + (i - 1)) 0 < 2 ^ 64
-  bitsAt-room q f = rw bitsAt-down (bitsAt-word (k - (i - 1)) s (at + (i - 1)) (omega arith) (omega arith) f)
+  -- there is room for one byte more
+  pub bitsAt-room : k ≤ 8 → Bytes s → n < 2 ^ 56
+  bitsAt-room q f =
+      let small = bitsAt-lt (k - i) s (at + i) (omega arith) f in
+      omega (arith, pow-mono {i = 8 * (k - i)} {j = 56} (omega arith))
 
-pub bitsAt-seam : (before ds after : List ℕ) → bitsAt (length ds) (before ++ ds ++ after) (length before) ≡ valueOf 256 ds
+pub bitsAt-seam : (before ds after : List ℕ)
+    → bitsAt (length ds) (before ++ ds ++ after) (length before) ≡ valueOf 256 ds
 unfolding bitsAt
-bitsAt-seam before ds after = rw (append-assoc before ds after, drop-append-seam before (ds ++ after), take-append-seam ds after)
+bitsAt-seam before ds after =
+    rw (append-assoc before ds after, drop-append-seam before (ds ++ after), take-append-seam ds after)
 
 -- ════════════════════════════════════════════════════════════════════════════════════════════
 -- Whole and cut fields
 -- ════════════════════════════════════════════════════════════════════════════════════════════
 
-pub signedAt-whole : (k : ℕ) (s : List ℕ) (at : ℕ) → at + k ≤ length s → signedAt k s at ≡ Number (signed (8 * k) (bitsAt k s at))
-unfolding signedAt
-signedAt-whole k s at h = rw (le-leb (at + k) (length s) h)
+module _ (k : ℕ) (s : List ℕ) (at : ℕ) where
+  pub signedAt-whole : at + k ≤ length s → signedAt k s at ≡ Number (signed (8 * k) (bitsAt k s at))
+  unfolding signedAt
+  signedAt-whole h = rw (le-leb (at + k) (length s) h)
 
-pub signedAt-cut : (k : ℕ) (s : List ℕ) (at : ℕ) → length s < at + k → signedAt k s at ≡ Cut
-unfolding signedAt
-signedAt-cut k s at h = rw (lt-leb (at + k) (length s) h)
+  pub signedAt-cut : length s < at + k → signedAt k s at ≡ Cut
+  unfolding signedAt
+  signedAt-cut h = rw (lt-leb (at + k) (length s) h)
 
-pub unsignedAt-whole : (k : ℕ) (s : List ℕ) (at : ℕ) → at + k ≤ length s → unsignedAt k s at ≡ Number (pos (bitsAt k s at))
-unfolding unsignedAt
-unsignedAt-whole k s at h = rw (le-leb (at + k) (length s) h)
+  pub unsignedAt-whole : at + k ≤ length s → unsignedAt k s at ≡ Number (pos (bitsAt k s at))
+  unfolding unsignedAt
+  unsignedAt-whole h = rw (le-leb (at + k) (length s) h)
 
-pub unsignedAt-cut : (k : ℕ) (s : List ℕ) (at : ℕ) → length s < at + k → unsignedAt k s at ≡ Cut
-unfolding unsignedAt
-unsignedAt-cut k s at h = rw (lt-leb (at + k) (length s) h)
+  pub unsignedAt-cut : length s < at + k → unsignedAt k s at ≡ Cut
+  unfolding unsignedAt
+  unsignedAt-cut h = rw (lt-leb (at + k) (length s) h)
 
 -- ════════════════════════════════════════════════════════════════════════════════════════════
 -- The bytes of a number
@@ -112,7 +120,9 @@ bytes-unsigned k n h = bytes-value k (pos n) ∙ mod-eq-of-lt h
 -- the bytes of a number, wherever they stand, are read as the number
 module _ (k : ℕ) (before after : List ℕ) (z : ℤ) where
   bytes-fit : length before + k ≤ length (before ++ bytesOf k z ++ after)
-  bytes-fit = rw (length-append (before ++ bytesOf k z) after, length-append before (bytesOf k z)) (omega (arith, bytes-length k z))
+  bytes-fit =
+      rw (length-append (before ++ bytesOf k z) after, length-append before (bytesOf k z))
+      (omega (arith, bytes-length k z))
 
   pub bitsAt-bytes : bitsAt k (before ++ bytesOf k z ++ after) (length before) ≡ valueOf 256 (bytesOf k z)
   bitsAt-bytes = rw (bytes-length k z) at (bitsAt-seam before (bytesOf k z) after)

@@ -5,7 +5,7 @@ use mathlib.Core.Bool.{Bool, true, false}
 use Prim.Native.Nat.{ℕ, zero, suc, _+_, _*_, _-_, _%_, _^_, _<_, _≤_}
 use native.Mathlib.Nat.{mod-eq-of-lt}
 use native.Mathlib.Omega.{arith}
-use lib.IntN.{ℤ, pos, negsuc, _+ℤ_, _-ℤ_, natAbs}
+use lib.IntN.{ℤ, pos, negsuc, _-ℤ_, natAbs}
 use lib.Signed.{mag, ltZ}
 use lib.Pow.{pow-lt, pow-mono}
 use lib.Dec.{ltb}
@@ -13,8 +13,8 @@ use mir.Syntax.{w64}
 use mir.Val.{SFits, toZ, ofZ, sel}
 use mir.Facts.{toZ-pos, toZ-ofZ}
 use borrow.Author.Tests.{ltb-true, le-ltb}
-use Rattle.word.specs.Wrap.{Signed, residue, half, signed, wrap, addWrap, subWrap}
-use Rattle.word.proofs.Laws.Wrap.{pow-half, signed-lower, signed-upper, residue-add, residue-sub}
+use Rattle.word.specs.Wrap.{Signed, residue, half, signed}
+use Rattle.word.proofs.Laws.Wrap.{pow-half, signed-lower, signed-upper}
 
 -- ════════════════════════════════════════════════════════════════════════════════════════════
 -- The kit's reading of 64 bits is that of Wrap
@@ -98,6 +98,13 @@ module _ (z : ℤ) (f : SFits w64 z) where
         by : (z : ℤ) → SFits w64 z → ltZ z (pos 0) ≡ true → 2 ^ 64 - 1 - mag z ≡ residue 64 z
         by (pos n) f e = absurd (omega (arith, ltb-true n 0 e))
         by (negsuc n) f e = let h = f .sfits in omega (arith, residue-ofZ (negsuc n) (f .sfits))
+
+    pub flip-abs : mag z + 1 ≡ natAbs z
+    flip-abs = by z (rw (toZ-ofZ f) at e)
+      where
+        by : (z : ℤ) → ltZ z (pos 0) ≡ true → mag z + 1 ≡ natAbs z
+        by (pos n) e = absurd (omega (arith, ltb-true n 0 e))
+        by (negsuc n) e = omega arith
 
   pub natural-residue : ltZ (toZ w64 (ofZ w64 z)) (pos 0) ≡ false → natAbs (toZ w64 (ofZ w64 z)) ≡ residue 64 z
   natural-residue e = rw (toZ-ofZ f) (by z f (rw (toZ-ofZ f) at e))

@@ -1,7 +1,7 @@
--- Two's complement over the width k: a signed number of k bits and its remainder modulo 2^k give each other, and the remainder of a
--- sum is that of the sum of the remainders.
+-- Two's complement over the width k: a signed number of k bits and its remainder modulo 2^k give each other, and the
+-- remainder of a sum is that of the sum of the remainders.
 -- Assumes nothing.
-use mathlib.Core.Path.{_≡_, refl, sym, ap, ap₂, subst, _∙_}
+use mathlib.Core.Path.{_≡_, refl, sym, ap, _∙_}
 use mathlib.Core.Bool.{Bool, true, false, cond}
 use Prim.Native.Nat.{ℕ, zero, suc, _+_, _*_, _-_, _/_, _%_, _^_, _<_, _≤_}
 use native.Mathlib.Nat.{mod-lt, mod-mod, mod-eq-of-lt, mul-mod-left, suc-mul, div-add-mod', pow-suc, add-zero, zero-mod}
@@ -86,7 +86,8 @@ residue-parts k (negsuc n) =
     omega (arith, suc-mul (n / 2 ^ k) (2 ^ k), div-add-mod' n (2 ^ k), mod-lt n (pow-pos k)) in
     rw e (mul-mod-left (suc (n / 2 ^ k)) (2 ^ k) ∙ sym (zero-mod (2 ^ k)))
 
-sub-parts : (a b : ℕ) (t : Bool) → ltb a b ≡ t → up (cond t (negsuc (b - suc a)) (pos (a - b))) + b ≡ a + down (cond t (negsuc (b - suc a)) (pos (a - b)))
+sub-parts : (a b : ℕ) (t : Bool) → ltb a b ≡ t
+    → let z = cond t (negsuc (b - suc a)) (pos (a - b)) in up z + b ≡ a + down z
 sub-parts a b true e = omega (arith, ltb-true a b e)
 sub-parts a b false e = omega (arith, ltb-false a b e)
 
@@ -103,14 +104,16 @@ residue-add k a b =
     let d = down (a +ℤ b) in
     let e = down a + down b in
     let left : r + (d + e) ≡ (r + d) + e = omega arith in
-    let right : residue k a + residue k b + (d + e) ≡ ((residue k a + down a) + (residue k b + down b)) + d = omega arith in
-    let sum = mod-add m (residue k a + down a) (up a) (residue k b + down b) (up b) (residue-parts k a) (residue-parts k b) in
+    let x = residue k a in
+    let y = residue k b in
+    let right : x + y + (d + e) ≡ ((x + down a) + (y + down b)) + d = omega arith in
+    let sum = mod-add m (x + down a) (up a) (y + down b) (up b) (residue-parts k a) (residue-parts k b) in
     sym (mod-eq-of-lt (residue-lt k (a +ℤ b)))
-    ∙ mod-cancel m r (residue k a + residue k b) (d + e) (pow-pos k)
+    ∙ mod-cancel m r (x + y) (d + e) (pow-pos k)
     (rw (left, right)
     (mod-add m (r + d) (up (a +ℤ b)) e e (residue-parts k (a +ℤ b)) refl
     ∙ ap (λ (n : ℕ). n % m) (sum-parts a b)
-    ∙ sym (mod-add m (residue k a + down a + (residue k b + down b)) (up a + up b) d d sum refl)))
+    ∙ sym (mod-add m (x + down a + (y + down b)) (up a + up b) d d sum refl)))
 
 -- what gives back a's remainder when b's is added is the remainder of a − b
 pub residue-sub : (k r : ℕ) (a b : ℤ) → r < 2 ^ k → (r + residue k b) % 2 ^ k ≡ residue k a → r ≡ residue k (a -ℤ b)
@@ -141,6 +144,7 @@ pub addWrap-signed : (a b : ℤ) → signed 64 ((residue 64 a + residue 64 b) % 
 unfolding addWrap wrap
 addWrap-signed a b = ap (signed 64) (sym (residue-add 64 a b))
 
-pub subWrap-signed : (a b : ℤ) (r : ℕ) → r < 2 ^ 64 → (r + residue 64 b) % 2 ^ 64 ≡ residue 64 a → signed 64 r ≡ subWrap a b
+pub subWrap-signed : (a b : ℤ) (r : ℕ) → r < 2 ^ 64 → (r + residue 64 b) % 2 ^ 64 ≡ residue 64 a
+    → signed 64 r ≡ subWrap a b
 unfolding subWrap wrap
 subWrap-signed a b r h e = ap (signed 64) (residue-sub 64 r a b h e)

@@ -1,8 +1,9 @@
--- `word::field::bits` meets its contract. The loop's invariant: the number is that of the bytes from `i` on. The measure is `i`.
--- Assumes nothing.
+-- `word::field::bits` meets its contract. The loop's invariant: the number is that of the bytes from `i` on. The measure is
+-- `i`. Assumes nothing.
 use mathlib.Core.Path.{_≡_, sym}
 use Prim.Native.Nat.{_+_, _-_, _≤_}
 use native.Mathlib.Omega.{arith}
+use mir.Facts.{fits-8-64, fits-shl, fits-cat}
 use borrow.Author.Needs.{needs}
 use Rattle.word.specs.Field.{bitsAt}
 use Rattle.word.proofs.Laws.Field.{bitsAt-none, bitsAt-down, bitsAt-room}
@@ -31,19 +32,26 @@ shared-slice-read-byte : tie.Need-shared-slice-read-byte Inv-loop μ-loop
 shared-slice-read-byte c = omega arith
 
 cast-byte : tie.Need-cast-byte Inv-loop μ-loop
-cast-byte c = record { fits = omega (arith, c .shared-slice-known .given (c .before .before .before .args .at + (c .before .before .loop .i - 1)) .fits) }
+cast-byte c = fits-8-64 (c .shared-slice-known .given _)
 
 mul-number : tie.Need-mul-number Inv-loop μ-loop
 mul-number c =
     let a = c .before .before .before .args in
     let l = c .before .before .loop in
-    record { fits = omega (arith, bitsAt-room (a .s .now) (a .at) (a .width) (l .i) (l .number) (search needs) (search needs) (search needs) (l .inv .1) (search needs) (λ j. c .shared-slice-known .given j .fits)) }
+    let bytes = c .shared-slice-known .given in
+    fits-shl 56 8 tt
+    (bitsAt-room (a .s .now) (a .at) (a .width) (l .i) (l .number)
+    (search needs) (search needs) (search needs) (l .inv .1) (search needs) (λ j. bytes j .fits))
 
 add-number : tie.Need-add-number Inv-loop μ-loop
 add-number c =
     let a = c .before .before .before .args in
     let l = c .before .before .loop in
-    record { fits = bitsAt-room (a .s .now) (a .at) (a .width) (l .i) (l .number) (search needs) (search needs) (search needs) (l .inv .1) (search needs) (λ j. c .shared-slice-known .given j .fits) }
+    let bytes = c .shared-slice-known .given in
+    fits-cat 56 8 tt
+    (bitsAt-room (a .s .now) (a .at) (a .width) (l .i) (l .number)
+    (search needs) (search needs) (search needs) (l .inv .1) (search needs) (λ j. bytes j .fits))
+    (bytes _ .fits)
 
 loop-less : tie.Need-loop-less Inv-loop μ-loop
 loop-less c = omega arith
@@ -51,8 +59,11 @@ loop-less c = omega arith
 loop-again : tie.Need-loop-again Inv-loop μ-loop
 loop-again c =
     let a = c .before .before .before .args in
-    let l = c .before .before .loop in
-    (omega arith, bitsAt-down (a .s .now) (a .at) (a .width) (l .i) (l .number) (search needs) (search needs) (search needs) (l .inv .1))
+    let l = c .before .before .loop in (
+      omega arith,
+      bitsAt-down (a .s .now) (a .at) (a .width) (l .i) (l .number)
+          (search needs) (search needs) (search needs) (l .inv .1),
+    )
 
 returns : tie.Need-returns Inv-loop μ-loop
 returns c =

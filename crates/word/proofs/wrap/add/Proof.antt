@@ -1,8 +1,8 @@
 -- `word::wrap::add` meets its contract: the sum of two words, modulo 2^64, is that of their bits.
 -- Assumes nothing.
+use borrow.Author.Needs.{needs}
 use Rattle.word.proofs.Signed.{back, back-ok}
 use Rattle.word.proofs.Laws.Wrap.{addWrap-signed}
-use borrow.Author.Needs.{needs}
 use Rattle.word.proofs.wrap.add.Statement.{statement}
 use Rattle.word.proofs.wrap.add.Tie as tie
 

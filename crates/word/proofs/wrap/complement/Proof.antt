@@ -1,7 +1,7 @@
--- `word::wrap::complement` meets its contract: the lower half stand for themselves, the upper half for the numbers from -1 down.
+-- `word::wrap::complement` meets its contract: the lower half stand for themselves, the upper half for the negative numbers.
 -- Assumes nothing.
-use borrow.Author.Needs.{needs}
 use native.Mathlib.Omega.{arith}
+use borrow.Author.Needs.{needs}
 use Rattle.word.proofs.Laws.Wrap.{pow-half}
 use Rattle.word.proofs.Laws.Word.{top-half, top-word, lower-signed, upper-fits, upper-signed}
 use Rattle.word.proofs.wrap.complement.Statement.{statement}
@@ -18,10 +18,14 @@ cast-result c =
     record { sfits = omega (arith, top-word (c .before .args .width) (search needs) (search needs)) }
 
 sub-result : tie.Need-sub-result
-sub-result c = omega (arith, top-half (c .before .args .width) (search needs) (search needs), pow-half (c .before .args .width) (search needs))
+sub-result c =
+    let w = c .before .args .width in
+    omega (arith, top-half w (search needs) (search needs), pow-half w (search needs))
 
 sub-result-2 : tie.Need-sub-result-2
-sub-result-2 c = omega (arith, top-half (c .before .args .width) (search needs) (search needs), pow-half (c .before .args .width) (search needs))
+sub-result-2 c =
+    let w = c .before .args .width in
+    omega (arith, top-half w (search needs) (search needs), pow-half w (search needs))
 
 cast-result-2 : tie.Need-cast-result-2
 cast-result-2 c =

@@ -1,8 +1,8 @@
 -- `word::wrap::sub` meets its contract: the difference of two words, modulo 2^64, is that of their bits.
 -- Assumes nothing.
+use borrow.Author.Needs.{needs}
 use Rattle.word.proofs.Signed.{back, back-ok}
 use Rattle.word.proofs.Laws.Wrap.{subWrap-signed}
-use borrow.Author.Needs.{needs}
 use Rattle.word.proofs.wrap.sub.Statement.{statement}
 use Rattle.word.proofs.wrap.sub.Tie as tie
 

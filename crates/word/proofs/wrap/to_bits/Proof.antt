@@ -21,7 +21,10 @@ cast-result-2 c =
     rw (back f) (cast-natural (c .before .args .word) f (rw (back f) at (c .if1 .left)))
 
 returns : tie.Need-returns
-returns c = rw (flip-back (c .before .args .word) (c .before .fits .word) (c .if1 .taken)) (flip-residue (c .before .args .word) (c .before .fits .word) (c .if1 .taken))
+returns c =
+    let a = c .before .args .word in
+    let f = c .before .fits .word in
+    rw (flip-back a f (c .if1 .taken)) (flip-residue a f (c .if1 .taken))
 
 returns-2 : tie.Need-returns-2
 returns-2 c = natural-residue (c .before .args .word) (c .before .fits .word) (c .if1 .left)

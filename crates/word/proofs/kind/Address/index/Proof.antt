@@ -1,7 +1,7 @@
 -- `word::kind::Address::index` meets its contract: an address is a word.
 -- Assumes nothing.
-use Rattle.word.proofs.Signed.{back-ok}
 use borrow.Author.Needs.{needs}
+use Rattle.word.proofs.Signed.{back-ok}
 use Rattle.word.proofs.kind.Address.index.Statement.{statement}
 use Rattle.word.proofs.kind.Address.index.Tie as tie
 

@@ -1,7 +1,7 @@
 -- `word::kind::Pc::index` meets its contract: a command number is a word.
 -- Assumes nothing.
-use Rattle.word.proofs.Signed.{back-ok}
 use borrow.Author.Needs.{needs}
+use Rattle.word.proofs.Signed.{back-ok}
 use Rattle.word.proofs.kind.Pc.index.Statement.{statement}
 use Rattle.word.proofs.kind.Pc.index.Tie as tie
 

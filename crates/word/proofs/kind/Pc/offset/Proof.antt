@@ -1,8 +1,8 @@
 -- `word::kind::Pc::offset` meets its contract: a command number is a word.
 -- Assumes nothing.
 use mathlib.Core.Path.{_∙_}
-use Rattle.word.proofs.Signed.{back, back-ok}
 use borrow.Author.Needs.{needs}
+use Rattle.word.proofs.Signed.{back, back-ok}
 use Rattle.word.proofs.kind.Pc.offset.Statement.{statement}
 use Rattle.word.proofs.kind.Pc.offset.Tie as tie
 
@@ -11,8 +11,9 @@ add-requires c κs = search needs
 
 returns : tie.Need-returns
 returns c =
-    back-ok (c .add .result) (c .add .ok)
-    ∙ (rw (back-ok (c .before .before .args .self .0) (c .before .struct-told .given .0 .1), back (c .before .before .fits .by)) at (c .add .ensures))
+    let start = c .before .before in
+    let self = back-ok (start .args .self .0) (c .before .struct-told .given .0 .1) in
+    back-ok (c .add .result) (c .add .ok) ∙ (rw (self, back (start .fits .by)) at (c .add .ensures))
 
 pub offset-spec : {M : Type 1} → statement M
 offset-spec = tie.close (tie.spec add-requires returns)

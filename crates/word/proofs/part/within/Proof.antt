@@ -1,12 +1,12 @@
--- `word::field::within` meets its contract: where the size alone is too much the sum is, and else the position decides.
+-- `word::part::within` meets its contract: where the size alone is too much the sum is, and else the position decides.
 -- Assumes nothing.
 use mathlib.Core.Path.{sym}
 use Prim.Native.Nat.{_+_}
 use native.Mathlib.Omega.{arith}
 use borrow.Author.Tests.{lt-leb}
 use Rattle.word.proofs.Laws.Test.{leb-shift}
-use Rattle.word.proofs.field.within.Statement.{statement}
-use Rattle.word.proofs.field.within.Tie as tie
+use Rattle.word.proofs.part.within.Statement.{statement}
+use Rattle.word.proofs.part.within.Tie as tie
 
 returns : tie.Need-returns
 returns c = sym (lt-leb (c .before .args .at + c .before .args .size) (c .before .args .len) (omega arith))

@@ -1,0 +1,4 @@
+pub mod Zero
+pub mod Limits
+pub mod Going
+pub mod Link

@@ -1,0 +1,61 @@
+-- The machine record and the lent stack, word by word: what the methods of this crate do, for all arguments.
+use Prim.Native.Nat.{ℕ, _+_, _-_, _*_}
+use mathlib.Core.Bool.{Bool, true, false}
+use mathlib.Core.List.{List}
+use lib.IntN.{ℤ, pos, negsuc}
+use lib.ListN.{getD, set}
+use lib.Dec.{ltb, leb, eqb}
+use Rattle.word.specs.Wrap.{addWrap}
+use Rattle.label.specs.Word.{lowLabel}
+use Rattle.step.specs.declared.Machine.{Machine}
+use Rattle.step.specs.declared.Slot.{Slot}
+
+-- the first where the test holds, else the second
+abbrev pub choose : {A : Type 0} → Bool → A → A → A
+choose true a b = a
+choose false a b = b
+
+abbrev pub machine : ℤ → ℕ → ℕ → ℕ → Machine
+machine pc label depth lines = record { pc = record { 0 = pc }; label = record { 0 = label }; depth = depth; lines = lines }
+
+abbrev pub started : Machine
+started = machine (pos 0) 0 0 0
+
+-- one entry more, up to 256
+unfoldable pub pushed : Machine → Machine
+pushed m = choose (ltb (m .depth) 256) (machine (m .pc .0) (m .label .0) (m .depth + 1) (m .lines)) m
+
+-- three words an entry: kind, number, label
+unfoldable pub setEntry : List ℤ → ℕ → ℤ → ℤ → ℕ → List ℤ
+setEntry stack i kind number label = set (set (set stack (3 * i) kind) (3 * i + 1) number) (3 * i + 2) (pos label)
+
+unfoldable pub pushedStack : Machine → List ℤ → ℤ → ℤ → ℕ → List ℤ
+pushedStack m stack kind number label = choose (ltb (m .depth) 256) (setEntry stack (m .depth) kind number label) stack
+
+unfoldable pub dropped : Machine → Machine
+dropped m = choose (ltb 0 (m .depth)) (machine (m .pc .0) (m .label .0) (m .depth - 1) (m .lines)) m
+
+unfoldable pub gone : Machine → ℤ → ℕ → Machine
+gone m pc label = machine pc label (m .depth) (m .lines)
+
+unfoldable pub following : Machine → ℕ → Machine
+following m label = gone m (addWrap (m .pc .0) (pos 1)) label
+
+unfoldable pub printed : Machine → ℕ → Machine
+printed m room = choose (ltb (m .lines) room) (machine (m .pc .0) (m .label .0) (m .depth) (m .lines + 1)) m
+
+abbrev pub slotOf : ℕ → ℤ → ℕ → Slot
+slotOf kind number label = record { kind = kind; number = number; label = record { 0 = label } }
+
+-- a stored kind word: 0 is a value's, any other a frame's
+abbrev pub kindOf : ℤ → ℕ
+kindOf (pos n) = choose (eqb n 0) 0 1
+kindOf (negsuc n) = 1
+
+-- entry i of the stack, counted from the bottom
+unfoldable pub entryAt : List ℤ → ℕ → Slot
+entryAt stack i = slotOf (kindOf (getD stack (3 * i) (pos 0))) (getD stack (3 * i + 1) (pos 0)) (lowLabel (getD stack (3 * i + 2) (pos 0)))
+
+-- the entry so many below the top of a stack of `depth` entries
+unfoldable pub slotAt : List ℤ → ℕ → ℕ → Slot
+slotAt stack depth below = choose (leb depth below) (slotOf 2 (pos 0) 0) (entryAt stack (depth - below - 1))

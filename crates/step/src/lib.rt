@@ -1,0 +1,118 @@
+// The machine record and what a command finds on the stack and does to it, on lent words. Both engines are made of these.
+// Read in specs/: Words; what they mean for the machine of document 01 is in proofs/.
+use label::Label;
+use word::kind::Pc;
+ghost use mathlib.Core.Path.{_≡_};
+ghost use Rattle.step.specs.Words.{started, pushed, pushedStack, dropped, gone, following, printed, slotAt};
+
+// The machine record: the place, its label, how many entries the stack has and how many lines are written.
+pub struct Machine {
+    pub pc: Pc,
+    pub label: Label,
+    pub depth: u32,
+    pub lines: usize,
+}
+
+impl Machine {
+    // A run starts at place 0, label 0, empty stack, no lines.
+    pub fn start() -> Machine
+        ensures { λ r. ⌜ r ≡ started ⌝ }
+    {
+        Machine {
+            pc: Pc(0),
+            label: Label::EMPTY,
+            depth: 0,
+            lines: 0,
+        }
+    }
+
+    // One entry more: its kind, number and label, bottom first in the lent stack. A full stack stays as it is.
+    pub fn push(mut self, stack: &mut [i64], kind: i64, number: i64, label: Label) -> Machine
+        ensures record { λ r. ⌜ r ≡ pushed self ⌝ }
+        ensures stack { λ _. ⌜ now (stack .exit) ≡ pushedStack self (now (stack .entry)) kind number (label .0) ⌝ }
+    {
+        let depth = self.depth;
+        if depth < 256 {
+            let i = 3 * depth as usize;
+            word::memory::put(stack, i, kind);
+            word::memory::put(stack, i + 1, number);
+            word::memory::put(stack, i + 2, label.word());
+            self.depth = depth + 1;
+        }
+        self
+    }
+
+    // One entry less. It keeps its content in the lent stack; an empty stack stays empty.
+    pub fn drop(mut self) -> Machine
+        ensures { λ r. ⌜ r ≡ dropped self ⌝ }
+    {
+        let depth = self.depth;
+        if 0 < depth {
+            self.depth = depth - 1;
+        }
+        self
+    }
+
+    // At another place, with a place label.
+    pub fn goto(mut self, pc: Pc, label: Label) -> Machine
+        ensures { λ r. ⌜ r ≡ gone self (pc .0) (label .0) ⌝ }
+    {
+        self.pc = pc;
+        self.label = label;
+        self
+    }
+
+    // At the next place.
+    pub fn following(self, label: Label) -> Machine
+        ensures { λ r. ⌜ r ≡ following self (label .0) ⌝ }
+    {
+        self.goto(self.pc.offset(1), label)
+    }
+
+    // One line more, if there is room for it.
+    pub fn print(mut self, room: usize) -> Machine
+        ensures { λ r. ⌜ r ≡ printed self room ⌝ }
+    {
+        let lines = self.lines;
+        if lines < room {
+            self.lines = lines + 1;
+        }
+        self
+    }
+}
+
+// What stands on the stack, counted from the top: a value (kind 0), a frame (kind 1) or nothing (kind 2).
+pub struct Slot {
+    pub kind: u64,
+    pub number: i64,
+    pub label: Label,
+}
+
+pub fn look(stack: &[i64], depth: u32, below: u32) -> Slot
+    ensures { λ r. ⌜ r ≡ slotAt (now (stack .entry)) depth below ⌝ }
+{
+    if depth <= below {
+        return Slot {
+            kind: 2,
+            number: 0,
+            label: Label::EMPTY,
+        };
+    }
+    let i = 3 * (depth - below - 1) as usize;
+    let kind = word::memory::at(stack, i);
+    let number = word::memory::at(stack, i + 1);
+    let label = Label::low(word::memory::at(stack, i + 2));
+    if kind == 0 {
+        Slot {
+            kind: 0,
+            number,
+            label,
+        }
+    } else {
+        Slot {
+            kind: 1,
+            number,
+            label,
+        }
+    }
+}

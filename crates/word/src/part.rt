@@ -1,0 +1,11 @@
+// A part of lent memory.
+ghost use mathlib.Core.Path.{_≡_};
+ghost use Prim.Native.Nat.{_+_};
+ghost use lib.Dec.{leb};
+
+// Do `size` elements from `at` on lie within the first `len`? The sum is not formed: it may not fit.
+pub(crate) fn within(len: usize, at: usize, size: usize) -> bool
+    ensures { λ r. ⌜ r ≡ leb (at + size) len ⌝ }
+{
+    if len < size { false } else { at <= len - size }
+}
