@@ -6,3 +6,6 @@ pub mod ConditionReading
 pub mod RuleReading
 pub mod TableReading
 pub mod Asking
+pub mod Rows
+pub mod RowKeys
+pub mod Readings

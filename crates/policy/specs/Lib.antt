@@ -6,3 +6,5 @@ pub mod Write
 pub mod Standard
 pub mod Value
 pub mod Ask
+pub mod Row
+pub mod RowCode

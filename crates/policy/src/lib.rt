@@ -1,5 +1,6 @@
-// Rule tables. Read in specs/: Expression, Evaluate; Token, Read for their bytes; Value for what the code reads of them.
+// Rule tables. Read in specs/: Expression, Evaluate; Token, Read for their bytes; Value, Ask for what the code reads of them; Row for the rule memory.
 mod expression;
+pub mod row;
 
 ghost use mathlib.Core.Path.{_≡_};
 ghost use Prim.Native.Nat.{_≤_};
