@@ -1,0 +1,10 @@
+pub mod Word
+pub mod Effect
+pub mod Exec
+pub mod Instruction
+pub mod Compile
+pub mod Dispatch
+pub mod Handler
+pub mod Shape
+pub mod Space
+pub mod Readings

@@ -1,0 +1,75 @@
+-- The handler space: as long as two words an instruction, and its words give the instructions back.
+-- Assumes nothing.
+use mathlib.Core.Path.{_≡_, refl, sym, ap, fun-ext}
+use mathlib.Core.Bool.{Bool, true, false}
+use mathlib.Core.List.{List, [], _∷_, _++_}
+use mathlib.Core.Option.{none, some}
+use Prim.Native.Nat.{ℕ, zero, suc, _+_, _*_, _<_, _≤_}
+use native.Mathlib.Omega.{arith}
+use lib.IntN.{ℤ, pos}
+use lib.ListN.{length, getElem?}
+use lib.Dec.{ltb}
+use borrow.Author.Tests.{ltb-true, ltb-false}
+use Rattle.word.specs.Lay.{laid}
+use Rattle.handler.specs.Kernel.{Instruction, Add, Sub, Or, Load, Store, Dup, Swap, Jump, Ret, Push, Bnz}
+use Rattle.handler.specs.Kernel.{Code, run, handle, start}
+use Rattle.handler.specs.Space.{codeOf, operand, kernelWords, known, instructionAt, heldIf, held, handleSpace}
+
+pub kernelWords-length : (code : List Instruction) → length (kernelWords code) ≡ 2 * length code
+unfolding kernelWords
+kernelWords-length [] = refl
+kernelWords-length (i ∷ code) = let h = kernelWords-length code in omega arith
+
+pub kernelWords-append : (a b : List Instruction) → kernelWords (a ++ b) ≡ kernelWords a ++ kernelWords b
+unfolding kernelWords
+kernelWords-append [] b = refl
+kernelWords-append (i ∷ a) b = ap (λ (ws : List ℤ). pos (codeOf i) ∷ operand i ∷ ws) (kernelWords-append a b)
+
+-- the two words of an instruction give it back
+pub known-words : (i : Instruction) → known (pos (codeOf i)) (operand i) ≡ some i
+unfolding known
+known-words Add = refl
+known-words Sub = refl
+known-words (Push n) = refl
+known-words Load = refl
+known-words Store = refl
+known-words Jump = refl
+known-words (Bnz n) = refl
+known-words Ret = refl
+known-words Or = refl
+known-words Dup = refl
+known-words Swap = refl
+
+words-at : (code : List Instruction) (rest : List ℤ) (i : ℕ) → i < length code
+    → instructionAt (kernelWords code ++ rest) i ≡ getElem? code i
+unfolding kernelWords
+words-at [] rest i h = absurd (omega arith)
+words-at (a ∷ code) rest zero h = known-words a
+words-at (a ∷ code) rest (suc i) h =
+    let x : 2 * suc i ≡ suc (suc (2 * i)) = omega arith in
+    let y : 2 * suc i + 1 ≡ suc (suc (2 * i + 1)) = omega arith in
+    rw (y, x) (words-at code rest i (omega arith))
+
+-- a space that a handler was laid into holds its instructions
+pub instructionAt-laid : (code : List Instruction) (old : List ℤ) (i : ℕ) → i < length code
+    → instructionAt (laid (kernelWords code) old) i ≡ getElem? code i
+unfolding laid
+instructionAt-laid code old i h = words-at code _ i h
+
+element-outside : (code : List Instruction) (i : ℕ) → length code ≤ i → getElem? code i ≡ none
+element-outside [] i h = refl
+element-outside (a ∷ code) zero h = absurd (omega arith)
+element-outside (a ∷ code) (suc i) h = element-outside code i (omega arith)
+
+held-laid : (code : List Instruction) (old : List ℤ) (i : ℕ) → held (laid (kernelWords code) old) (length code) i ≡ getElem? code i
+held-laid code old i = by (ltb i (length code)) refl
+  where
+    by : (b : Bool) → ltb i (length code) ≡ b → heldIf b (instructionAt (laid (kernelWords code) old) i) ≡ getElem? code i
+    by true e = instructionAt-laid code old i (ltb-true i (length code) e)
+    by false e = sym (element-outside code i (ltb-false i (length code) e))
+
+-- and runs as it does
+pub handleSpace-laid : (code : List Instruction) (old row : List ℤ)
+    → handleSpace (laid (kernelWords code) old) (length code) row ≡ handle code row
+unfolding handleSpace handle
+handleSpace-laid code old row = ap (λ (c : Code). run c (length code) (start row)) (fun-ext (held-laid code old))
