@@ -5,7 +5,7 @@ mod start;
 
 use program::Checked;
 use program::Refusal;
-use run::Ran;
+pub use run::Ran;
 ghost use mathlib.Core.Path.{_≡_};
 ghost use Rattle.plain.specs.Plain.{memory, ended, plain};
 
