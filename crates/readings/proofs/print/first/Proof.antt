@@ -1,0 +1,21 @@
+-- `readings::print::first` is safe: the part that it writes has as many bytes as it was told, after its test.
+use borrow.Author.Needs.{needs}
+use native.Mathlib.Omega.{arith}
+use lib.ListN.{length-take}
+use Rattle.readings.proofs.print.first.Statement.{statement}
+use Rattle.readings.proofs.print.first.Tie as tie
+
+slice-aggregate-write-all : tie.Need-slice-aggregate-write-all
+slice-aggregate-write-all c = simp length-take (omega arith)
+
+write-all-requires : tie.Need-write-all-requires
+write-all-requires c κs = search needs
+
+returns : tie.Need-returns
+returns c = search needs
+
+returns-2 : tie.Need-returns-2
+returns-2 c = search needs
+
+pub first-spec : {M : Type 1} → statement M
+first-spec = tie.close (tie.spec slice-aggregate-write-all write-all-requires returns returns-2)
