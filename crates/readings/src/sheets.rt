@@ -61,9 +61,7 @@ pub(crate) fn cuts() {
 fn load(name: &[u8], sheet: &[u8], space: &mut [i64]) {
     print::text(name);
     answer(program::load(sheet, space));
-    print::text(b":");
-    print::words(space);
-    print::line();
+    print::words(b":", space, space.len());
 }
 
 // R1's sheet: Push 1, Load, Push 0, Load, Add, Output, Push 0, Load, Output. It needs 18 words; others stay as they came.
