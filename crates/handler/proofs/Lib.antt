@@ -8,3 +8,5 @@ pub mod Handler
 pub mod Shape
 pub mod Space
 pub mod Readings
+pub mod Words
+pub mod Acting
