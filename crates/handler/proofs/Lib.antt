@@ -10,3 +10,4 @@ pub mod Space
 pub mod Readings
 pub mod Words
 pub mod Acting
+pub mod Going
