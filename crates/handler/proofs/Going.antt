@@ -13,7 +13,7 @@ use lib.Dec.{ltb}
 use borrow.Author.Tests.{ltb-true, ltb-false, lt-ltb}
 use Rattle.handler.specs.declared.kernel.How.the-variants as How
 use Rattle.handler.specs.declared.kernel.Stepped.{Stepped}
-use Rattle.handler.specs.Kernel.{Instruction, returned, denied, failed, Effect, ends, goes, effectAt, Kernel, Result, ended, after, step, run, start}
+use Rattle.handler.specs.Kernel.{Instruction, Outcome, returned, denied, failed, Effect, ends, goes, effectAt, Kernel, Result, ended, after, step, run, start}
 use Rattle.handler.specs.Space.{known, instructionAt, held, heldIf, handleSpace}
 use Rattle.handler.specs.Words.{stackOf, effectOf, actOf, Acts}
 use Rattle.handler.proofs.Words.{stack-length}
@@ -29,6 +29,17 @@ pub record Going (count : ℕ) (space row₀ : List ℤ) (place depth : ℕ) (st
   pub size : length stack ≡ 64
   pub words : length row ≡ 7
   pub left : run (held space count) (count - steps) (state place depth stack row steps) ≡ handleSpace space count row₀
+
+abbrev pub result : Outcome → List ℤ → ℕ → Result
+result o row steps = record { outcome = o; row = row; steps = steps }
+
+pub inside-both : (i count n : ℕ) → (ltb i count && ltb (2 * i) n) ≡ true → (i < count) × (2 * i < n)
+inside-both i count n e = by (ltb i count) (ltb (2 * i) n) refl refl e
+  where
+    by : (a b : Bool) → ltb i count ≡ a → ltb (2 * i) n ≡ b → (a && b) ≡ true → (i < count) × (2 * i < n)
+    by true true f g e = (ltb-true i count f, ltb-true (2 * i) n g)
+    by true false f g e = absurd (let x : _≡_ {A = ℕ} 0 1 = cc in omega arith)
+    by false b f g e = absurd (let x : _≡_ {A = ℕ} 0 1 = cc in omega arith)
 
 -- an instruction, or none, at the place
 act-at : (o : Option Instruction) (x : Kernel) → effectAt o x ≡ actOf o (x .place) (x .stack) (x .row)
@@ -85,11 +96,17 @@ module _ (count : ℕ) (space row₀ : List ℤ) where
             → after e (state place depth stack row steps) (λ y. run (held space count) (count - (steps + 1)) y) ≡ handleSpace space count row₀
         by e f = rw (here ∙ f) at next
 
-        pub going-returned : r .how ≡ How.Returned → ended returned (state place depth stack row steps) ≡ handleSpace space count row₀
-        going-returned q = by (ends returned) (rw q)
+        pub going-returned : r .how ≡ How.Returned
+            → result returned row (steps + 1) ≡ handleSpace space count row₀
+        going-returned q =
+            let z : steps + 1 ≡ suc steps = omega arith in
+            ap (result returned row) z ∙ by (ends returned) (rw q)
 
-        pub going-denied : r .how ≡ How.Denied → ended denied (state place depth stack row steps) ≡ handleSpace space count row₀
-        going-denied q = by (ends denied) (rw q)
+        pub going-denied : r .how ≡ How.Denied
+            → result denied row (steps + 1) ≡ handleSpace space count row₀
+        going-denied q =
+            let z : steps + 1 ≡ suc steps = omega arith in
+            ap (result denied row) z ∙ by (ends denied) (rw q)
 
         pub going-failed : r .how ≡ How.Failed → ended failed (state place depth stack row steps) ≡ handleSpace space count row₀
         going-failed q = by (ends failed) (rw q)

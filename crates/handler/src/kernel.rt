@@ -352,3 +352,73 @@ fn inside(words: usize, count: usize, place: u64) -> bool
     }
     false
 }
+
+// Runs the handler on a stack of 64 words, which is empty, whatever the words.
+fn go(space: &[i64], count: usize, stack: &mut [i64], memory: Cache) -> Handled
+    requires { ⌜ (length (now stack) ≡ 64) × (length (memory .words) ≡ 7) ⌝ }
+    ensures { λ r. ⌜ resultOf r ≡ handleSpace (now (space .entry)) count (memory .words) ⌝ }
+{
+    let fuel = count as u64;
+    let mut cache = memory;
+    let mut place: u64 = 0;
+    let mut depth: usize = 0;
+    let mut steps: u64 = 0;
+    while steps < fuel {
+        if inside(space.len(), count, place) {
+            let i = place as usize;
+            let code = at(space, 2 * i);
+            let operand = at(space, 2 * i + 1);
+            let r = act(code, operand, place, depth, stack, cache);
+            let how = r.how;
+            match how {
+                How::Goes => {
+                    let word = r.word;
+                    cache = cache.set(r.address, word);
+                    place = r.place;
+                    depth = r.depth;
+                    steps += 1;
+                }
+                How::Returned => {
+                    return Handled {
+                        outcome: Outcome::Returned,
+                        cache,
+                        steps: steps + 1,
+                    };
+                }
+                How::Denied => {
+                    return Handled {
+                        outcome: Outcome::Denied,
+                        cache,
+                        steps: steps + 1,
+                    };
+                }
+                How::Failed => {
+                    return Handled {
+                        outcome: Outcome::Failed,
+                        cache,
+                        steps,
+                    };
+                }
+            }
+        } else {
+            return Handled {
+                outcome: Outcome::Failed,
+                cache,
+                steps,
+            };
+        }
+    }
+    Handled {
+        outcome: Outcome::Failed,
+        cache,
+        steps,
+    }
+}
+
+// Runs the handler of `count` instructions that a space holds, on the rule memory.
+pub fn handle(space: &[i64], count: usize, cache: Cache) -> Handled
+    ensures { λ r. ⌜ resultOf r ≡ handleSpace (now (space .entry)) count (cache .words) ⌝ }
+{
+    let mut stack = [0i64; 64];
+    go(space, count, &mut stack, cache)
+}
