@@ -8,3 +8,6 @@ pub mod Handler
 pub mod Shape
 pub mod Space
 pub mod Readings
+pub mod Words
+pub mod Acting
+pub mod Going

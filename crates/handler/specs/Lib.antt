@@ -3,4 +3,5 @@ pub mod Translate
 pub mod Row
 pub mod Claim
 pub mod Space
+pub mod Words
 pub mod Reading
