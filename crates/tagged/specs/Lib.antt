@@ -1,0 +1,5 @@
+pub mod Consult
+pub mod Run
+pub mod Start
+pub mod Loop
+pub mod Tagged
