@@ -9,17 +9,18 @@ use lib.IntN.{ℤ, pos, negsuc, _+ℤ_}
 use lib.ListN.{length, length-append, length-map}
 use lib.Dec.{ltb, eqb·suc-zero}
 use borrow.Author.Tests.{ltb-true}
-use Rattle.word.specs.Wrap.{Signed}
+use Rattle.word.specs.Wrap.{Signed, addWrap, subWrap}
 use Rattle.program.specs.declared.Command.{Command}
 use Rattle.program.specs.declared.Command.the-variants.{Add, Sub, Pop, Output, Push, Load, Store, Jump, Bnz, Call, Ret}
 use Rattle.machine.specs.Atom.{Atom, Entry, value, frame, Line}
+use Rattle.machine.specs.Rule.{missing}
 use Rattle.machine.specs.State.{State, outputFull, stackFull}
-use Rattle.machine.specs.Step.{Outcome, Request, stackLimit, request, atom, next, branch}
+use Rattle.machine.specs.Step.{Outcome, Request, ask, withValues, stackLimit, request, of, atom, next, branch}
 use Rattle.step.specs.declared.Machine.{Machine}
 use Rattle.step.specs.declared.phase.Inputs.{Inputs}
-use Rattle.step.specs.Words.{slotAt, machine, dropped, gone}
+use Rattle.step.specs.Words.{dropped, gone}
 use Rattle.step.specs.Lent.{Lent, After, OnStack, withStack, OnLines, withLines}
-use Rattle.step.specs.Phase.{pushing, loadFinding, storeFinding}
+use Rattle.step.specs.Phase.{first, second, pushing, loadFinding, storeFinding}
 use Rattle.step.specs.Phase.{twoInputs, oneInput, callInputs, frameInputs, loadInputs, storeInputs, inputsOf}
 use Rattle.step.specs.Phase.{sumOf, branchOf, arithEffect, outputEffect, pushEffect, loadEffect, storeEffect, callEffect, effectOf}
 use Rattle.step.proofs.Link.Stack.{Held, held-tail, topSlot, below, slot-top, slot-below, stack-pushed}
@@ -28,7 +29,7 @@ use Rattle.step.proofs.Link.Represents.{Represents, Sound, Simulates}
 use Rattle.step.proofs.Link.Needs.{value-needed, values-needed, frame-needed, cell-needed, room-needed}
 use Rattle.step.proofs.Link.Runs.{cell-read, label-read, cell-stored, line-laid}
 use Rattle.step.proofs.Link.Carried.{machineOf, carried, goto-carried, push-carried}
-use Rattle.step.proofs.Link.Looks.{found, Looks}
+use Rattle.step.proofs.Link.Looks.{found, effect, Looks}
 
 branch-is : (n pc operand : ℤ) → Signed 64 (pc +ℤ pos 1) → Signed 64 (pc +ℤ operand) → branchOf n pc operand ≡ branch n pc operand
 unfolding branchOf
@@ -49,11 +50,11 @@ module _ {room : ℕ} {numbers₀ marks₀ : List ℤ} {s : State} {l : Lent} (r
   abbrev Found : Command → Type 0
   Found c = Asks c (request room c s) (found c (machineOf s) l)
 
-  top : slotAt (l .stack) (length (s .stack)) 0 ≡ topSlot (s .stack)
-  top = slot-top (s .stack) (r .stack) (h .labels .stack)
+  first-is : first (machineOf s) (l .stack) ≡ topSlot (s .stack)
+  first-is = slot-top (s .stack) (r .stack) (h .labels .stack)
 
-  second : slotAt (l .stack) (length (s .stack)) 1 ≡ topSlot (below (s .stack))
-  second = slot-below (s .stack) (r .stack) (h .labels .stack)
+  second-is : second (machineOf s) (l .stack) ≡ topSlot (below (s .stack))
+  second-is = slot-below (s .stack) (r .stack) (h .labels .stack)
 
   cells : length (l .values) ≡ length (s .memory)
   cells = ap length (r .values) ∙ length-map (s .memory) (λ a. a .number)
@@ -72,25 +73,30 @@ module _ {room : ℕ} {numbers₀ marks₀ : List ℤ} {s : State} {l : Lent} (r
   -- Add and Sub
   -- ══════════════════════════════════════════════════════════════════════════════════════════
 
-  -- two entries give way to a value
-  replaced : {d e : Entry} {rest : List Entry} (n : ℤ) (label p : ℕ) → s .stack ≡ d ∷ e ∷ rest
-      → Sim (next s p (value (atom n label) ∷ rest))
-      (withStack l (pushing (dropped (dropped (machine (s .pc .number) (s .pc .label) (suc (suc (length rest))) (length (s .lines))))) (l .stack) (pos 0) n label p))
-  replaced {rest = rest} n label p g =
-      let d : suc (suc (length rest)) ≤ stackLimit = depth g in
-      push-carried r rest n label p on (h .space) (omega arith) (under-two g) (dropped-entries _ _ _ _)
+  -- what both ask and do, with the sum of either
+  arith-asks : (c : Command) (sum : ℤ → ℤ → ℤ)
+      → (let m = machineOf s in let n = sum (first m (l .stack) .number) (second m (l .stack) .number) in
+      (p label : ℕ) → effect c m l room p label ≡ withStack l (pushing (dropped (dropped m)) (l .stack) (pos 0) n label p))
+      → Asks c (withValues (s .stack) (λ a b rest.
+      ask (of a) (of b) missing (λ p label. next s p (value (atom (sum (a .number) (b .number)) label) ∷ rest))))
+      (twoInputs (machineOf s) (l .stack))
+  unfolding twoInputs
+  arith-asks c sum g =
+      rw (first-is, second-is) (values-needed (Asks c) (s .stack) _ _ _ refl (λ a b rest e. (
+        rw e,
+        λ p label.
+            let d : suc (suc (length rest)) ≤ stackLimit = depth e in
+            rw (g p label, first-is, second-is, e)
+            (push-carried r rest _ label p on (h .space) (omega arith) (under-two e) (dropped-entries _ _ _ _)),
+      )))
 
   pub add-looks : Found Add
-  unfolding request inputsOf twoInputs effectOf arithEffect sumOf
-  add-looks =
-      rw (top, second) (values-needed (Asks Add) (s .stack) _ _ _ refl (λ a b rest e.
-      (rw e, λ p r. rw (top, second, e) (replaced _ _ _ e))))
+  unfolding request inputsOf effectOf arithEffect sumOf
+  add-looks = arith-asks Add addWrap (λ p label. refl)
 
   pub sub-looks : Found Sub
-  unfolding request inputsOf twoInputs effectOf arithEffect sumOf
-  sub-looks =
-      rw (top, second) (values-needed (Asks Sub) (s .stack) _ _ _ refl (λ a b rest e.
-      (rw e, λ p r. rw (top, second, e) (replaced _ _ _ e))))
+  unfolding request inputsOf effectOf arithEffect sumOf
+  sub-looks = arith-asks Sub subWrap (λ p label. refl)
 
   -- ══════════════════════════════════════════════════════════════════════════════════════════
   -- Pop, Output and Push
@@ -99,20 +105,20 @@ module _ {room : ℕ} {numbers₀ marks₀ : List ℤ} {s : State} {l : Lent} (r
   pub pop-looks : Found Pop
   unfolding request inputsOf oneInput effectOf
   pop-looks =
-      rw top (value-needed (Asks Pop) (s .stack) _ _ _ refl (λ a rest e.
+      rw first-is (value-needed (Asks Pop) (s .stack) _ _ _ refl (λ a rest e.
       (rw e, λ p _. goto-carried r _ rest (rw (e, dropped-entry) (following-next _ _ _ _ p on)) (under-one e))))
 
   pub output-looks : Found Output
   unfolding request inputsOf oneInput effectOf outputEffect
   output-looks =
-      rw top (value-needed (Asks Output) (s .stack) _ _ _ refl (λ a rest e. (
+      rw first-is (value-needed (Asks Output) (s .stack) _ _ _ refl (λ a rest e. (
         rw e,
         λ p label.
             room-needed (λ o (x : OnLines). Sim o (withLines l x)) (ltb (length (s .lines)) room) outputFull _ _ _
             (λ t.
             let fits : length (s .lines) < room = ltb-true _ _ t in
             let line : Line = record { number = a .number; label = label } in
-            rw (top, e) (carried r _
+            rw (first-is, e) (carried r _
             (rw (dropped-entry, printed-line _ _ _ _ room fits, length-append, add-one) (following-next _ _ _ _ p on))
             (under-one e) (r .values) (r .labels)
             (line-laid (λ x. x .number) (s .lines) line numbers₀ (r .numbers) (omega arith))
@@ -137,28 +143,28 @@ module _ {room : ℕ} {numbers₀ marks₀ : List ℤ} {s : State} {l : Lent} (r
   pub load-looks : Found Load
   unfolding request inputsOf loadInputs effectOf loadEffect
   load-looks =
-      rw top (value-needed (Asks Load) (s .stack) _ _ _ refl (λ a rest e.
+      rw first-is (value-needed (Asks Load) (s .stack) _ _ _ refl (λ a rest e.
       rw (ap topSlot e, cells) (cell-needed (Asks Load) (s .memory) (a .number) _
       (λ j. loadFinding (machineOf s) (l .stack) (l .labels) j) refl
       (λ i c at g. (
-        rw (top, e, label-read (r .labels) (h .labels .memory) at),
+        rw (first-is, e, label-read (r .labels) (h .labels .memory) at),
         λ p label.
             let d : suc (length rest) ≤ stackLimit = depth e in
-            rw (top, e, cells, g, cell-read (λ c. c .number) (r .values) at)
+            rw (first-is, e, cells, g, cell-read (λ c. c .number) (r .values) at)
             (push-carried r rest _ label p on (h .space) (omega arith) (under-one e) (dropped-entry _ _ _ _)),
       )))))
 
   pub store-looks : Found Store
   unfolding request inputsOf storeInputs effectOf storeEffect
   store-looks =
-      rw (top, second) (values-needed (Asks Store) (s .stack) _ _ _ refl (λ a b rest e.
+      rw (first-is, second-is) (values-needed (Asks Store) (s .stack) _ _ _ refl (λ a b rest e.
       rw (ap topSlot e, cells) (cell-needed (Asks Store) (s .memory) (a .number) _
       (λ j. storeFinding (machineOf s) (l .stack) (l .labels) j) refl
       (λ i c at g. (
-        rw (top, second, e, label-read (r .labels) (h .labels .memory) at),
+        rw (first-is, second-is, e, label-read (r .labels) (h .labels .memory) at),
         λ p label.
             let stored : Atom = atom (b .number) label in
-            rw (top, ap topSlot e, cells, g, second, e)
+            rw (first-is, ap topSlot e, cells, g, second-is, e)
             (carried r _
             (rw dropped-entries (following-next _ _ _ _ p on))
             (under-two e)
@@ -174,34 +180,34 @@ module _ {room : ℕ} {numbers₀ marks₀ : List ℤ} {s : State} {l : Lent} (r
   pub jump-looks : Found Jump
   unfolding request inputsOf oneInput effectOf gone
   jump-looks =
-      rw top (value-needed (Asks Jump) (s .stack) _ _ _ refl (λ a rest e.
-      (rw e, λ p _. rw (top, e, dropped-entry) (goto-carried r _ rest refl (under-one e)))))
+      rw first-is (value-needed (Asks Jump) (s .stack) _ _ _ refl (λ a rest e.
+      (rw e, λ p _. rw (first-is, e, dropped-entry) (goto-carried r _ rest refl (under-one e)))))
 
   pub bnz-looks : (n : ℤ) → Signed 64 (s .pc .number +ℤ n) → Found (Bnz n)
   unfolding request inputsOf oneInput effectOf gone
   bnz-looks n to =
-      rw top (value-needed (Asks (Bnz n)) (s .stack) _ _ _ refl (λ a rest e. (
+      rw first-is (value-needed (Asks (Bnz n)) (s .stack) _ _ _ refl (λ a rest e. (
         rw e,
         λ p _.
-            rw (top, e, dropped-entry, branch-is (a .number) (s .pc .number) n on to) (goto-carried r _ rest refl (under-one e)),
+            rw (first-is, e, dropped-entry, branch-is (a .number) (s .pc .number) n on to) (goto-carried r _ rest refl (under-one e)),
       )))
 
   pub ret-looks : Found Ret
   unfolding request inputsOf frameInputs effectOf gone
   ret-looks =
-      rw top (frame-needed (Asks Ret) (s .stack) _ _ _ refl (λ a rest e.
-      (rw e, λ p _. rw (top, e, dropped-entry) (goto-carried r _ rest refl (under-one e)))))
+      rw first-is (frame-needed (Asks Ret) (s .stack) _ _ _ refl (λ a rest e.
+      (rw e, λ p _. rw (first-is, e, dropped-entry) (goto-carried r _ rest refl (under-one e)))))
 
   pub call-looks : Found Call
   unfolding request inputsOf callInputs effectOf callEffect gone
   call-looks =
-      rw (top, second) (values-needed (Asks Call) (s .stack) _ _ _ refl (λ a b rest e. (
+      rw (first-is, second-is) (values-needed (Asks Call) (s .stack) _ _ _ refl (λ a b rest e. (
         rw e,
         λ p label.
             let d : suc (suc (length rest)) ≤ stackLimit = depth e in
             let one : length rest < stackLimit = omega arith in
             let two : suc (length rest) < stackLimit = omega arith in
-            rw (top, second, e, dropped-entries, addWrap-id (s .pc .number) (pos 1) on, pushed-entry (s .pc .number) (s .pc .label) (length rest) (length (s .lines)) one)
+            rw (first-is, second-is, e, dropped-entries, addWrap-id (s .pc .number) (pos 1) on, pushed-entry (s .pc .number) (s .pc .label) (length rest) (length (s .lines)) one)
             (goto-carried r _ _ (ap (λ (m : Machine). gone m (a .number) p) (pushed-entry _ _ (suc (length rest)) _ two))
             (stack-pushed _ _ _ (value b) (frame _ ∷ rest) (l .stack) two (h .space)
             (stack-pushed _ _ _ (frame _) rest (l .stack) one (h .space) (under-two e)))),
