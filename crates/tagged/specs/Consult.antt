@@ -25,15 +25,11 @@ pub record Five : Type 0 where
   pub input2 : ℤ
   pub input3 : ℤ
 
+abbrev pub words : ℤ → ℤ → ℤ → ℤ → ℤ → Five
+words code pc input1 input2 input3 = record { code = code; pc = pc; input1 = input1; input2 = input2; input3 = input3 }
+
 abbrev pub fiveOf : Key → Five
-fiveOf k =
-    record {
-      code = pos (codeOf (k .opcode));
-      pc = pos (k .pc);
-      input1 = inputWord (k .input1);
-      input2 = inputWord (k .input2);
-      input3 = inputWord (k .input3);
-    }
+fiveOf k = words (pos (codeOf (k .opcode))) (pos (k .pc)) (inputWord (k .input1)) (inputWord (k .input2)) (inputWord (k .input3))
 
 abbrev pub sameWord : ℤ → ℤ → Bool
 sameWord (pos a) (pos b) = eqb a b

@@ -1,4 +1,5 @@
 pub mod Consult
+pub mod Ruling
 pub mod Run
 pub mod Start
 pub mod Loop

@@ -18,7 +18,7 @@ use Rattle.step.specs.Phase.{inputsOf, effectOf}
 use Rattle.handler.specs.Kernel.{Result}
 use Rattle.plain.specs.Loop.{endOr}
 use Rattle.tagged.specs.declared.run.Ran.{Ran}
-use Rattle.tagged.specs.Consult.{Tag, Five, Consulted, consult, counted}
+use Rattle.tagged.specs.Consult.{Tag, Five, words, Consulted, consult, counted}
 
 -- ════════════════════════════════════════════════════════════════════════════════════════════
 -- One command
@@ -37,7 +37,7 @@ abbrev pub acted : After → Consulted → Acted
 acted a c = record { after = a; consulted = c }
 
 abbrev pub five : ℤ → Machine → Inputs → Five
-five word m i = record { code = word; pc = pos (m .label .0); input1 = i .input1; input2 = i .input2; input3 = i .input3 }
+five word m i = words word (pos (m .label .0)) (i .input1) (i .input2) (i .input3)
 
 module _ (handler : List ℤ → Result) (room : ℕ) (word operand : ℤ) (m : Machine) (l : Lent) where
   abbrev pub actRuled : Verdict → After
