@@ -64,7 +64,7 @@ fn act(
 }
 
 // Stop 0 where the place is the number of commands, else another.
-fn end_or(m: Machine, count: usize, other: u64) -> u64
+pub fn end_or(m: Machine, count: usize, other: u64) -> u64
     ensures { λ r. ⌜ r ≡ endOr m count other ⌝ }
 {
     let place = word::number::unsigned(m.pc.0);

@@ -6,8 +6,8 @@ use lib.IntN.{ℤ, pos, negsuc}
 use lib.Dec.{eqb}
 use Rattle.label.specs.Word.{lowLabel}
 use Rattle.program.specs.Command.{codeOf}
-use Rattle.machine.specs.Rule.{Key, Verdict, denied, allowed}
-use Rattle.policy.specs.Row.{word, inputWord}
+use Rattle.machine.specs.Rule.{Key, inputWord, Verdict, denied, allowed}
+use Rattle.policy.specs.Row.{word}
 use Rattle.handler.specs.Kernel.{Outcome, returned, failed, Result}
 use Rattle.handler.specs.Kernel as Kernel
 
@@ -16,6 +16,9 @@ pub record Tag : Type 0 where
   pub row : List ℤ
   pub faults : ℕ
   pub kernelSteps : ℕ
+
+abbrev pub tag : List ℤ → ℕ → ℕ → Tag
+tag row faults kernelSteps = record { row = row; faults = faults; kernelSteps = kernelSteps }
 
 -- a command about to run, as the five words: code, P, L1, L2, L3; missing inputs are −1
 pub record Five : Type 0 where
@@ -83,4 +86,4 @@ consult handler f ws = consultIf (matches f ws) handler f ws
 
 -- the counts go on
 abbrev pub counted : Tag → Consulted → Tag
-counted t c = record { row = c .row; faults = t .faults + c .faults; kernelSteps = t .kernelSteps + c .kernelSteps }
+counted t c = tag (c .row) (t .faults + c .faults) (t .kernelSteps + c .kernelSteps)

@@ -4,6 +4,7 @@ use handler::kernel::handle;
 use label::Label;
 use policy::row::Cache;
 ghost use mathlib.Core.Path.{_≡_};
+ghost use mathlib.Core.Bool.{true, false};
 ghost use Rattle.handler.specs.Space.{handleSpace};
 ghost use Rattle.tagged.specs.Consult.{sameWord, words, matches, missed, consult};
 ghost use Rattle.tagged.specs.Ruling.{rulingOf, ruling, ruledAgain};
