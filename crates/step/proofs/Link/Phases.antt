@@ -118,18 +118,18 @@ module _ (room : ℕ) (c : Command) (m : Machine) (l : Lent) where
       choose-all (Kept l) (eqb (i .stop) 9) _ _
       (decided-lengths (rule (i .input1) (i .input2) (i .input3))) (kept-same {r = outcome m (i .stop)})
 
-  module _ (π : Policy) (s : State) (numbers₀ marks₀ : List ℤ) where
-    pub decide-simulates : (v : Verdict) (k : ℕ → ℕ → Outcome)
-        → ((p r : ℕ) → Simulates numbers₀ marks₀ m l (k p r) (effect c m l room p r))
-        → Simulates numbers₀ marks₀ m l (decide v k) (decided v)
-    decide-simulates denied k f = refl
-    decide-simulates (allowed p r) k f = f p r
+  pub decide-simulates : (numbers₀ marks₀ : List ℤ) (v : Verdict) (k : ℕ → ℕ → Outcome)
+      → ((p r : ℕ) → Simulates numbers₀ marks₀ m l (k p r) (effect c m l room p r))
+      → Simulates numbers₀ marks₀ m l (decide v k) (decided v)
+  decide-simulates numbers₀ marks₀ denied k f = refl
+  decide-simulates numbers₀ marks₀ (allowed p r) k f = f p r
 
+  module _ (π : Policy) (s : State) (numbers₀ marks₀ : List ℤ) where
     consult-simulates : (rule : OnWords) (q : Request) (i : Inputs) → Rules π c s rule q
         → Looks c m l room numbers₀ marks₀ q i → Simulates numbers₀ marks₀ m l (consult π c s q) (phased rule i)
     unfolding phased
     consult-simulates rule (halt x) i e f = rw (f, stop-goes x)
-    consult-simulates rule (ask l1 l2 l3 k) i e (f, g) = rw (f, e) (decide-simulates (π (keyOf c s l1 l2 l3)) k g)
+    consult-simulates rule (ask l1 l2 l3 k) i e (f, g) = rw (f, e) (decide-simulates numbers₀ marks₀ (π (keyOf c s l1 l2 l3)) k g)
 
     pub execute-simulates : (rule : OnWords) (i : Inputs) → Rules π c s rule (request room c s)
         → Looks c m l room numbers₀ marks₀ (request room c s) i
