@@ -1,2 +1,4 @@
 pub mod Ruled
 pub mod Simulate
+pub mod Tags
+pub mod Whole
