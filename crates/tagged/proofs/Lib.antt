@@ -2,3 +2,4 @@ pub mod Ruled
 pub mod Simulate
 pub mod Tags
 pub mod Whole
+pub mod Accepted

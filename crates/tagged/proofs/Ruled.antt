@@ -1,6 +1,5 @@
 -- The labels that the rule memory and the handler give are in range, whatever the words are.
 -- Assumes nothing.
-use mathlib.Core.Path.{_≡_}
 use mathlib.Core.Bool.{Bool, true, false}
 use mathlib.Core.List.{List}
 use native.Mathlib.Nat.{mod-lt}
@@ -13,7 +12,7 @@ use Rattle.machine.specs.Rule.{Verdict, denied, allowed}
 use Rattle.machine.specs.Holds.{Answers}
 use Rattle.handler.specs.Kernel.{Instruction, Outcome, returned, failed, Result, handle}
 use Rattle.handler.specs.Kernel as Kernel
-use Rattle.tagged.specs.Consult.{Tag, Five, fiveOf, matches, missed, ruled, ruledIf, again, consultIf, consult}
+use Rattle.tagged.specs.Consult.{Tag, Five, fiveOf, matches, missed, ruledIf, again, consultIf, consult}
 use Rattle.tagged.specs.Run.{rules}
 
 low-range : (z : ℤ) → InRange (lowLabel z)

@@ -4,7 +4,7 @@
 use mathlib.Core.Path.{_≡_, refl, ap, ap₂, _∙_}
 use mathlib.Core.Bool.{Bool, true, false}
 use mathlib.Core.List.{List, [], _∷_}
-use mathlib.Core.Option.{none, some}
+use mathlib.Core.Option.{none}
 use Prim.Native.Nat.{ℕ, zero, suc, _≤_}
 use native.Mathlib.Nat.{add-zero}
 use native.Mathlib.Omega.{arith}
@@ -22,7 +22,7 @@ use Rattle.machine.specs.Holds.{ProgramHas}
 use Rattle.step.specs.declared.Machine.{Machine}
 use Rattle.step.specs.declared.phase.Inputs.{Inputs}
 use Rattle.step.specs.Words.{choose}
-use Rattle.step.specs.Lent.{outcome, Lent, After, after}
+use Rattle.step.specs.Lent.{outcome, Lent, after}
 use Rattle.step.specs.Phase.{inputsOf, effectOf}
 use Rattle.step.proofs.Link.Represents.{Represents, Sound, Simulates}
 use Rattle.step.proofs.Link.Looks.{found, Looks}
@@ -30,7 +30,7 @@ use Rattle.step.proofs.Link.Length.{Kept}
 use Rattle.step.proofs.Link.Place.{code-residue}
 use Rattle.step.proofs.Link.Phases.{OnWords, Rules, stop-goes, decided, phased, phased-lengths, phases-at, execute-simulates}
 use Rattle.handler.specs.Kernel.{Instruction, Result, handle}
-use Rattle.tagged.specs.Consult.{Tag, Consulted, consult, counted}
+use Rattle.tagged.specs.Consult.{Tag, consult, counted}
 use Rattle.tagged.specs.Run.{rules, tagRequest, tagAt, tagStep}
 use Rattle.tagged.specs.Loop.{Acted, unasked, acted, five, actRuled, actAsked, actFound, actOf}
 
@@ -52,7 +52,7 @@ module _ (handler : List ℤ → Result) (c : Command) (m : Machine) (row : List
     abbrev actWith : Inputs → Acted
     actWith i = actFound handler room (codeWord c) (operand c) m l i row
 
-    pub act-with : actOf handler room (codeWord c) (operand c) m l row ≡ actWith (found c m l)
+    act-with : actOf handler room (codeWord c) (operand c) m l row ≡ actWith (found c m l)
     unfolding actOf
     act-with = ap (λ n. actWith (inputsOf n m (l .stack) (l .values) (l .labels))) (code-residue (opcode c))
 
@@ -65,7 +65,9 @@ module _ (handler : List ℤ → Result) (c : Command) (m : Machine) (row : List
     with-phased i = go (eqb (i .stop) 9)
       where
         go : (b : Bool)
-            → choose b (actAsked handler room (codeWord c) (operand c) m l (consult handler (five (codeWord c) m i) row)) (acted (after (outcome m (i .stop)) l) (unasked row)) .after
+            → choose b
+            (actAsked handler room (codeWord c) (operand c) m l (consult handler (five (codeWord c) m i) row))
+            (acted (after (outcome m (i .stop)) l) (unasked row)) .after
             ≡ choose b (decided room c m l (ruleOn (i .input1) (i .input2) (i .input3))) (after (outcome m (i .stop)) l)
         go true = ruled-as (ruleOn (i .input1) (i .input2) (i .input3))
         go false = refl

@@ -40,22 +40,26 @@ use Rattle.tagged.specs.Loop.{Done, done, acted, actOf, onward, loopOf}
 use Rattle.tagged.specs.Tagged.{summary}
 use Rattle.tagged.proofs.Ruled.{rules-range}
 use Rattle.tagged.proofs.Simulate.{act-lengths, act-simulates, act-tag, tag-at, tag-none}
-use Rattle.tagged.proofs.Tags.{tagRun-end, tagRun-spent, tagRun-stopped, tagRun-stepped, tagStack-end, tagStack-stopped, tagStack-stepped}
+use Rattle.tagged.proofs.Tags.{tagRun-end, tagRun-spent, tagRun-stopped, tagRun-stepped}
+use Rattle.tagged.proofs.Tags.{tagStack-end, tagStack-stopped, tagStack-stepped}
 
 -- ════════════════════════════════════════════════════════════════════════════════════════════
 -- What a run leaves
 -- ════════════════════════════════════════════════════════════════════════════════════════════
 
 module _ (numbers₀ marks₀ : List ℤ) where
-  -- the words of a result, with the stack space
+  -- the lent runs that hold a state, with the stack space
+  abbrev pub runs : State → List ℤ → Lent
+  runs s space =
+      lent space
+      (cellValues (s .memory))
+      (cellLabels (s .memory))
+      (laid (lineNumbers (s .lines)) numbers₀)
+      (laid (lineLabels (s .lines)) marks₀)
+
+  -- the words of a result
   abbrev pub ending : Result → List ℤ → Done
-  ending r space =
-      let s : State = r .machine .state in
-      record {
-        ran = summary r;
-        row = r .tag .row;
-        lent = lent space (cellValues (s .memory)) (cellLabels (s .memory)) (laid (lineNumbers (s .lines)) numbers₀) (laid (lineLabels (s .lines)) marks₀);
-      }
+  ending r space = record { ran = summary r; row = r .tag .row; lent = runs (r .machine .state) space }
 
   -- words that hold a state are those of a result that stopped there
   held : (s : State) (m : Machine) (l : Lent) (x : Stop) (u : Tag) (n : ℕ) → Represents numbers₀ marks₀ s m l → s .steps ≡ n
@@ -66,7 +70,8 @@ module _ (numbers₀ marks₀ : List ℤ) where
 -- The loop
 -- ════════════════════════════════════════════════════════════════════════════════════════════
 
-module _ (code : List Instruction) (cs : List Command) (program₀ : List ℤ) (room : ℕ) (numbers₀ marks₀ : List ℤ) (has : ProgramHas (Signed 64) cs) where
+module _ (code : List Instruction) (cs : List Command) (program₀ : List ℤ) (room : ℕ) (numbers₀ marks₀ : List ℤ)
+    (has : ProgramHas (Signed 64) cs) where
   abbrev words : List ℤ
   words = laid (programWords cs) program₀
 
@@ -91,26 +96,26 @@ module _ (code : List Instruction) (cs : List Command) (program₀ : List ℤ) (
     not-end = end-no cs program₀ room numbers₀ marks₀ has s m l n r e
 
     -- where both stop
-    stops : (x : Stop) (u : Tag) (k : ℕ) (q : Result) (space : List ℤ) → k ≡ stopNumber x → q ≡ result x s u → space ≡ l .stack
-        → done m k n u l ≡ ending numbers₀ marks₀ q space
-    stops x u k q space a b c = rw (a, b, c) (held numbers₀ marks₀ s m l x u n r e)
+    stops : (fuel : ℕ) (x : Stop) (u : Tag) {k : ℕ} → k ≡ stopNumber x
+        → tagRun code room cs fuel s t ≡ result x s u → tagStack code room cs fuel s t (l .stack) ≡ l .stack
+        → done m k n u l ≡ whole fuel s t (l .stack)
+    stops fuel x u a b c = rw (a, b, c) (held numbers₀ marks₀ s m l x u n r e)
 
     -- without allowance
     ends-none : looped 0 n m t l ≡ whole 0 s t (l .stack)
     unfolding loopOf tagStack
     ends-none = go (atEnd (length cs) (s .pc .number)) refl
       where
-        go : (b : Bool) → atEnd (length cs) (s .pc .number) ≡ b
-            → done m (endOr m (length cs) 1) n t l ≡ ending numbers₀ marks₀ (tagRun code room cs 0 s t) (l .stack)
-        go true g = stops end t (endOr m (length cs) 1) (tagRun code room cs 0 s t) (l .stack) (at-end 1 g) (tagRun-end code room cs s t g 0) refl
-        go false g = stops fuelSpent t (endOr m (length cs) 1) (tagRun code room cs 0 s t) (l .stack) (not-end 1 g) (tagRun-spent code room cs s t g) refl
+        go : (b : Bool) → atEnd (length cs) (s .pc .number) ≡ b → done m (endOr m (length cs) 1) n t l ≡ whole 0 s t (l .stack)
+        go true g = stops 0 end t (at-end 1 g) (tagRun-end code room cs s t g 0) refl
+        go false g = stops 0 fuelSpent t (not-end 1 g) (tagRun-spent code room cs s t g) refl
 
     module _ (fuel : ℕ) (h : Sound room numbers₀ marks₀ s l) (on : Ends fuel) where
       -- what the loop does after a command
       abbrev continued : Machine → Tag → Lent → Done
       continued m′ t′ l′ = looped fuel (n + 1) m′ t′ l′
 
-      -- one command
+      -- one command, which leaves a and k
       ends-outcome : (c : Command) → CommandAt cs (s .pc .number) c → (o : Outcome) → execute (rules code t) room c s ≡ o
           → (a : After) (k : Consulted) → tagStep code room cs s t ≡ counted t k → Kept l a → Simulates numbers₀ marks₀ m l o a
           → onward (acted a k) n t continued ≡ whole (suc fuel) s t (l .stack)
@@ -118,16 +123,20 @@ module _ (code : List Instruction) (cs : List Command) (program₀ : List ℤ) (
           let g = going-at cs (s .pc .number) c at in
           let v = step-at (rules code t) room s cs c at ∙ d in
           rw (w, stop-goes x)
-          (stops x (counted t k) (stopNumber x) (tagRun code room cs (suc fuel) s t) (tagStack code room cs (suc fuel) s t (l .stack)) refl
-          (tagRun-stopped code room cs s t g fuel (counted t k) left x v) (tagStack-stopped code room cs s t g fuel (counted t k) left (l .stack) x v))
+          (stops (suc fuel) x (counted t k) refl
+          (tagRun-stopped code room cs s t g fuel (counted t k) left x v)
+          (tagStack-stopped code room cs s t g fuel (counted t k) left (l .stack) x v))
       ends-outcome c at (stepped u) d a k left long w =
           let g = going-at cs (s .pc .number) c at in
           let v = step-at (rules code t) room s cs c at ∙ d in
           let steps : u .steps ≡ n + 1 = let j = change u d .steps in omega arith in
+          let kept = sound-step (rules code t) (rules-range code t) cs c at d h (long .stack) in
           rw (eq-eqb (a .stepped .stop) 9 (w .0))
-          (on u (a .stepped .machine) (counted t k) (a .lent) (n + 1) (w .1) (sound-step (rules code t) (rules-range code t) cs c at d h (long .stack)) steps
-          ∙ ap₂ (ending numbers₀ marks₀) (sym (tagRun-stepped code room cs s t g fuel (counted t k) left u v))
-          (ap (tagStack code room cs fuel u (counted t k)) (w .2) ∙ sym (tagStack-stepped code room cs s t g fuel (counted t k) left (l .stack) u v)))
+          (on u (a .stepped .machine) (counted t k) (a .lent) (n + 1) (w .1) kept steps
+          ∙ ap₂ (ending numbers₀ marks₀)
+          (sym (tagRun-stepped code room cs s t g fuel (counted t k) left u v))
+          (ap (tagStack code room cs fuel u (counted t k)) (w .2)
+          ∙ sym (tagStack-stepped code room cs s t g fuel (counted t k) left (l .stack) u v)))
         where
           change : (u : State) → execute (rules code t) room c s ≡ stepped u → Execute.Change room s u
           change u d = rw d at (Execute.execute-sound (rules code t) room c s)
@@ -136,14 +145,15 @@ module _ (code : List Instruction) (cs : List Command) (program₀ : List ℤ) (
       unfolding loopOf
       ends-more (atTheEnd o g) =
           rw (ap (λ z. indexOf z (length cs)) (r .pc) ∙ o)
-          (stops end t (endOr m (length cs) 2) (tagRun code room cs (suc fuel) s t) (tagStack code room cs (suc fuel) s t (l .stack)) (at-end 2 g)
+          (stops (suc fuel) end t (at-end 2 g)
           (tagRun-end code room cs s t g (suc fuel)) (tagStack-end code room cs s t g (suc fuel) (l .stack)))
       ends-more (beyond o g none) =
           let v = step-none (rules code t) room cs s none in
           let left = tag-none code room cs s t none in
           rw (ap (λ z. indexOf z (length cs)) (r .pc) ∙ o)
-          (stops pcOutside t (endOr m (length cs) 2) (tagRun code room cs (suc fuel) s t) (tagStack code room cs (suc fuel) s t (l .stack)) (not-end 2 g)
-          (tagRun-stopped code room cs s t g fuel t left pcOutside v) (tagStack-stopped code room cs s t g fuel t left (l .stack) pcOutside v))
+          (stops (suc fuel) pcOutside t (not-end 2 g)
+          (tagRun-stopped code room cs s t g fuel t left pcOutside v)
+          (tagStack-stopped code room cs s t g fuel t left (l .stack) pcOutside v))
       ends-more (inside i c o found at) =
           let a = actOf (handle code) room (pos (codeOf (opcode c))) (operand c) m l (t .row) in
           let left = tag-at code room c s t cs at ∙ sym (act-tag code room c s t numbers₀ marks₀ m l r h cs has at) in
@@ -157,8 +167,8 @@ module _ (code : List Instruction) (cs : List Command) (program₀ : List ℤ) (
 
   -- so it does with every function that handles rows as the handler does
   pub loop-tag : (handler : List ℤ → Kernel.Result) → ((row : List ℤ) → handler row ≡ handle code row)
-      → (fuel : ℕ) (s : State) (m : Machine) (t : Tag) (l : Lent) (n : ℕ) → Represents numbers₀ marks₀ s m l → Sound room numbers₀ marks₀ s l
-      → s .steps ≡ n
+      → (fuel : ℕ) (s : State) (m : Machine) (t : Tag) (l : Lent) (n : ℕ)
+      → Represents numbers₀ marks₀ s m l → Sound room numbers₀ marks₀ s l → s .steps ≡ n
       → loopOf handler (length cs) room (laid (programWords cs) program₀) fuel n m t l
       ≡ ending numbers₀ marks₀ (tagRun code room cs fuel s t) (tagStack code room cs fuel s t (l .stack))
   loop-tag handler same fuel s m t l n r h e =
