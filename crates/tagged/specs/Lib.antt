@@ -1,5 +1,6 @@
 pub mod Consult
 pub mod Run
+pub mod Claim
 pub mod Start
 pub mod Loop
 pub mod Tagged
