@@ -2,7 +2,7 @@
 -- Assumes nothing.
 use mathlib.Core.Path.{_≡_, refl}
 use mathlib.Core.Bool.{Bool, true, false}
-use mathlib.Core.List.{List, [], _∷_}
+use mathlib.Core.List.{List, _∷_}
 use mathlib.Core.Option.{Option, none, some}
 use Prim.Native.Nat.{ℕ}
 use native.Mathlib.Omega.{arith}
@@ -15,8 +15,9 @@ use Rattle.program.specs.declared.Command.{Command}
 use Rattle.program.specs.declared.Command.the-variants.{Add, Sub, Pop, Output, Push, Load, Store, Jump, Bnz, Call, Ret}
 use Rattle.machine.specs.Atom.{Atom, Entry, value, frame}
 use Rattle.machine.specs.Rule.{Input, present, missing, Key, labelOf, allowedIf, allowed}
-use Rattle.machine.specs.State.{State, Stop, stackFull, outputFull}
-use Rattle.machine.specs.Step.{Outcome, stopped, stepped, Request, halt, ask, stackLimit, withValue, withValues, withFrame, withCell, request}
+use Rattle.machine.specs.State.{State, stackFull, outputFull}
+use Rattle.machine.specs.Step.{Outcome, stopped, stepped, Request, halt, ask, request}
+use Rattle.machine.specs.Step.{stackLimit, withValue, withValues, withFrame, withCell}
 use Rattle.machine.specs.Holds.{Each, AtomHas, EntryHas, LabelsInRange, InputHas, KeyHas, Answers}
 use Rattle.machine.proofs.Request.{At, here, there, value-all, values-all, frame-all, cell-all, provided-all}
 use Rattle.step.proofs.Link.Phases.{keyOf}

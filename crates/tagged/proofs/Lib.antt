@@ -1,3 +1,5 @@
 pub mod Asked
 pub mod Rules
+pub mod Steps
+pub mod Faults
 pub mod Refines

@@ -1,140 +1,41 @@
--- A run of the tag engine with the handler of a rule table is the machine's run under that table; what it leaves in the rule memory, and
--- its counts.
+-- Demand 2: a run of the tag engine with the handler of a rule table is the machine's run under that table.
 -- Assumes nothing.
-use mathlib.Core.Path.{_≡_, refl, sym, ap, _∙_, fun-ext}
+use mathlib.Core.Path.{_≡_, refl, sym, subst, ap, _∙_, fun-ext}
 use mathlib.Core.Bool.{Bool, true, false}
-use mathlib.Core.List.{List, [], _∷_}
-use Prim.Native.Nat.{ℕ, zero, suc, _+_, _*_, _≤_}
-use native.Mathlib.Nat.{add-mul}
-use native.Mathlib.Omega.{arith}
-use lib.IntN.{ℤ, pos, negsuc}
-use lib.ListN.{length, getElem?}
+use mathlib.Core.List.{List}
+use Prim.Native.Nat.{ℕ, zero, suc}
+use lib.IntN.{ℤ}
+use lib.ListN.{length}
 use Rattle.word.specs.Lay.{laid}
-use Rattle.label.specs.Label.{InRange}
 use Rattle.program.specs.declared.Command.{Command}
-use Rattle.machine.specs.Rule.{Input, Key, Verdict, denied, allowed, Policy, standard}
-use Rattle.machine.specs.State.{State, Stop, end, fuelSpent, pcOutside}
-use Rattle.machine.specs.Step.{Outcome, stopped, stepped, Request, halt, ask, request, decide, execute}
-use Rattle.machine.specs.Step as Step
-use Rattle.machine.specs.Run.{atEnd, executeElement, executeAt, step, run}
-use Rattle.machine.specs.Run as Run
+use Rattle.machine.specs.Rule.{Key, Verdict, denied, allowed, standard}
+use Rattle.machine.specs.State.{State, Stop, fuelSpent}
+use Rattle.machine.specs.Step.{Outcome, stopped, stepped, Request, halt, ask, request, decide, consult, execute}
+use Rattle.machine.specs.Run.{atEnd, step, run}
 use Rattle.machine.specs.Stopped.{CommandAt}
-use Rattle.machine.specs.Holds.{LabelsInRange, Answers}
-use Rattle.machine.proofs.Execute.{Change, Sound, execute-sound}
-use Rattle.machine.proofs.Step.{Gives, gives-map, gives-stepped, step-all}
+use Rattle.machine.specs.Holds.{LabelsInRange}
 use Rattle.machine.proofs.Run.{run-end, run-stopped, run-stepped}
-use Rattle.machine.proofs.Holds.{run-range}
 use Rattle.step.specs.Layout.{stackWords, spaceAfter, spaceUnless, stackAfter}
 use Rattle.step.proofs.Link.Phases.{keyOf}
 use Rattle.policy.specs.Expression.{Table}
 use Rattle.policy.specs.Evaluate.{evaluate}
+use Rattle.policy.specs.Read.{table, readTable}
 use Rattle.policy.specs.Write.{TableWritable}
 use Rattle.policy.specs.Standard.{standardTable, standardBytes}
 use Rattle.policy.proofs.Standard.{evaluate-standard, standard-read}
 use Rattle.policy.proofs.Writable.{read-writable}
-use Rattle.handler.specs.Kernel.{Instruction, handle}
 use Rattle.handler.specs.Translate.{translate}
 use Rattle.handler.specs.Claim.{rowOf}
-use Rattle.handler.proofs.Effect.{handle-steps}
-use Rattle.tagged.specs.Consult.{Tag, Five, fiveOf, Consulted, matches, consultIf, consult, counted}
-use Rattle.tagged.specs.Run.{Result, consulted, rules, tagRequest, tagCommand, tagAt, tagStep, result, unlessEnd, after, tagRun, tagStack}
-use Rattle.tagged.specs.Claim.{Fits, Ruled, Leaves, LeavesIf, denies, Adds}
+use Rattle.tagged.specs.Consult.{Tag, counted}
+use Rattle.tagged.specs.Run.{Result, consulted, rules, tagRequest, tagStep, tagRun, tagStack}
+use Rattle.tagged.specs.Claim.{Fits, Leaves, Claim}
 use Rattle.tagged.proofs.Asked.{evaluate-range, Roomy, Asks, request-asks}
 use Rattle.tagged.proofs.Rules.{row-fits, consult-table}
+use Rattle.tagged.proofs.Steps.{Alike, step-alike, step-both, step-range, tag-induction}
+use Rattle.tagged.proofs.Faults.{tag-counts}
 
 -- ════════════════════════════════════════════════════════════════════════════════════════════
--- One step, of the machine and of the rule memory
--- ════════════════════════════════════════════════════════════════════════════════════════════
-
--- two policies that answer alike what the commands ask have the same step
-module _ (π ρ : Policy) (room : ℕ) (s : State) where
-  abbrev Alike : Command → Request → Type 0
-  Alike c (halt x) = Unit
-  Alike c (ask l1 l2 l3 k) = π (keyOf c s l1 l2 l3) ≡ ρ (keyOf c s l1 l2 l3)
-
-  consult-alike : (c : Command) (q : Request) → Alike c q → Step.consult π c s q ≡ Step.consult ρ c s q
-  consult-alike c (halt x) e = refl
-  consult-alike c (ask l1 l2 l3 k) e = ap (λ (v : Verdict). decide v k) e
-
-  module _ (alike : (c : Command) → Alike c (request room c s)) where
-    element-alike : (cs : List Command) (i : ℕ) → executeElement π room cs i s ≡ executeElement ρ room cs i s
-    unfolding execute
-    element-alike [] i = refl
-    element-alike (c ∷ cs) zero = consult-alike c (request room c s) (alike c)
-    element-alike (c ∷ cs) (suc i) = element-alike cs i
-
-    step-alike : (cs : List Command) → step π room cs s ≡ step ρ room cs s
-    unfolding step
-    step-alike cs = go (s .pc .number)
-      where
-        go : (z : ℤ) → executeAt π room cs z s ≡ executeAt ρ room cs z s
-        go (pos i) = element-alike cs i
-        go (negsuc i) = refl
-
--- a step and what it leaves of the rule memory, by cases: the command at the place, or there is none
-module _ (handler : List Instruction) (π : Policy) (room : ℕ) (s : State) (u : Tag) (R : Outcome → Tag → Type 0) (none : R (stopped pcOutside) u) where
-  abbrev Each : List Command → ℤ → Type 0
-  Each cs z = (c : Command) → CommandAt cs z c → R (execute π room c s) (tagRequest handler c s u (request room c s))
-
-  element-both : (cs : List Command) (i : ℕ) → Each cs (pos i) → R (executeElement π room cs i s) (tagCommand handler room (getElem? cs i) s u)
-  element-both [] i f = none
-  element-both (c ∷ cs) zero f = f c refl
-  element-both (c ∷ cs) (suc i) f = element-both cs i f
-
-  step-both : (cs : List Command) → Each cs (s .pc .number) → R (step π room cs s) (tagStep handler room cs s u)
-  unfolding step tagStep
-  step-both cs f = go (s .pc .number) f
-    where
-      go : (z : ℤ) → Each cs z → R (executeAt π room cs z s) (tagAt handler room cs z s u)
-      go (pos i) f = element-both cs i f
-      go (negsuc i) f = none
-
--- labels stay in range
-run-none : (π : Policy) (room : ℕ) (cs : List Command) (s : State) → run π room cs zero s .state ≡ s
-unfolding run
-run-none π room cs s = go (atEnd (length cs) (s .pc .number))
-  where
-    go : (b : Bool) → Run.unlessEnd b s (record { stop = fuelSpent; state = s }) .state ≡ s
-    go true = refl
-    go false = refl
-
-step-range : (π : Policy) (room : ℕ) (cs : List Command) → Answers InRange π → (s v : State)
-    → atEnd (length cs) (s .pc .number) ≡ false → step π room cs s ≡ stepped v → LabelsInRange s → LabelsInRange v
-step-range π room cs answers s v e g h =
-    let is : run π room cs 1 s .state ≡ v = ap (λ (r : Run.Result). r .state) (run-stepped π room cs 0 s v e g) ∙ run-none π room cs v in
-    rw is at (run-range π room cs answers 1 s h)
-
--- ════════════════════════════════════════════════════════════════════════════════════════════
--- Induction over runs of the tag engine
--- ════════════════════════════════════════════════════════════════════════════════════════════
-
--- as run-induction of the machine
-module _ (handler : List Instruction) (room : ℕ) (cs : List Command) (Q : ℕ → State → Tag → Result → Type 0)
-    (ends : (fuel : ℕ) (s : State) (u : Tag) → atEnd (length cs) (s .pc .number) ≡ true → Q fuel s u (result end s u))
-    (spends : (s : State) (u : Tag) → atEnd (length cs) (s .pc .number) ≡ false → Q zero s u (result fuelSpent s u))
-    (stops : (fuel : ℕ) (s : State) (u : Tag) (x : Stop) → atEnd (length cs) (s .pc .number) ≡ false
-    → step (rules handler u) room cs s ≡ stopped x → Q (suc fuel) s u (result x s (tagStep handler room cs s u)))
-    (goes : (fuel : ℕ) (s v : State) (u : Tag) (r : Result) → atEnd (length cs) (s .pc .number) ≡ false
-    → step (rules handler u) room cs s ≡ stepped v → Q fuel v (tagStep handler room cs s u) r → Q (suc fuel) s u r) where
-  after-all : (fuel : ℕ) (s : State) (u : Tag) → atEnd (length cs) (s .pc .number) ≡ false
-      → (o : Outcome) → step (rules handler u) room cs s ≡ o
-      → ((v : State) (w : Tag) → Q fuel v w (tagRun handler room cs fuel v w))
-      → let w : Tag = tagStep handler room cs s u in Q (suc fuel) s u (after o s w (λ v. tagRun handler room cs fuel v w))
-  after-all fuel s u e (stopped x) g h = stops fuel s u x e g
-  after-all fuel s u e (stepped v) g h = goes fuel s v u _ e g (h v _)
-
-  unless-all : (fuel : ℕ) (s : State) (u : Tag) (r : Result) (b : Bool) → atEnd (length cs) (s .pc .number) ≡ b
-      → (b ≡ false → Q fuel s u r) → Q fuel s u (unlessEnd b s u r)
-  unless-all fuel s u r true e h = ends fuel s u e
-  unless-all fuel s u r false e h = h refl
-
-  tag-induction : (fuel : ℕ) (s : State) (u : Tag) → Q fuel s u (tagRun handler room cs fuel s u)
-  unfolding tagRun
-  tag-induction zero s u = unless-all zero s u _ _ refl (λ e. spends s u e)
-  tag-induction (suc fuel) s u = unless-all (suc fuel) s u _ _ refl (λ e. after-all fuel s u e _ refl (tag-induction fuel))
-
--- ════════════════════════════════════════════════════════════════════════════════════════════
--- The handler of a table
+-- One step
 -- ════════════════════════════════════════════════════════════════════════════════════════════
 
 module _ (t : Table) (well : TableWritable t) (room : ℕ) (cs : List Command) where
@@ -159,7 +60,7 @@ module _ (t : Table) (well : TableWritable t) (room : ℕ) (cs : List Command) w
     outcome-left (stepped v) w e h = h
 
     request-left : (c : Command) → CommandAt cs (s .pc .number) c → (q : Request) → request room c s ≡ q → Asks c s q
-        → Left (Step.consult (evaluate t) c s q) (tagRequest (translate t) c s u q)
+        → Left (consult (evaluate t) c s q) (tagRequest (translate t) c s u q)
     request-left c at (halt x) e a = rw a fits
     request-left c at (ask l1 l2 l3 k) e (m, roomy) = go (evaluate t key) refl
       where
@@ -195,13 +96,18 @@ module _ (t : Table) (well : TableWritable t) (room : ℕ) (cs : List Command) w
         let g = sym step-rules ∙ e in
         (g, step-range (evaluate t) room cs (evaluate-range t) s v d g range, rw g at step-left)
 
+  -- ══════════════════════════════════════════════════════════════════════════════════════════
+  -- A run
+  -- ══════════════════════════════════════════════════════════════════════════════════════════
+
   -- the run, and what it leaves in the rule memory
   abbrev Follows : ℕ → State → Tag → Result → Type 0
   Follows fuel s u r =
       LabelsInRange s → Fits t (u .row)
       → (r .machine ≡ run (evaluate t) room cs fuel s) × Leaves t room cs (r .machine .stop) (r .machine .state) (r .tag .row)
 
-  run-spent : (s : State) → atEnd (length cs) (s .pc .number) ≡ false → run (evaluate t) room cs 0 s ≡ record { stop = fuelSpent; state = s }
+  run-spent : (s : State) → atEnd (length cs) (s .pc .number) ≡ false
+      → run (evaluate t) room cs 0 s ≡ record { stop = fuelSpent; state = s }
   unfolding run
   run-spent s e = rw e
 
@@ -244,9 +150,31 @@ module _ (t : Table) (well : TableWritable t) (room : ℕ) (cs : List Command) w
           → tagStack (translate t) room cs fuel v u space ≡ stackAfter (evaluate t) room cs fuel v space)
           → spaceUnless b space (spaceAfter o space (λ v. tagStack (translate t) room cs fuel v w (laid (stackWords (v .stack)) space)))
           ≡ spaceUnless b space
-          (spaceAfter (step (evaluate t) room cs s) space (λ v. stackAfter (evaluate t) room cs fuel v (laid (stackWords (v .stack)) space)))
+          (spaceAfter (step (evaluate t) room cs s) space
+          (λ v. stackAfter (evaluate t) room cs fuel v (laid (stackWords (v .stack)) space)))
       unless true e o g on = refl
       unless false e (stopped x) g on = let (d, left) = stop-left s u range fits g in rw d
       unless false e (stepped v) g on =
           let (d, range′, fits′) = go-left s u range fits e g in
           rw d (on v w (laid (stackWords (v .stack)) space) range′ fits′)
+
+-- ════════════════════════════════════════════════════════════════════════════════════════════
+-- The claim
+-- ════════════════════════════════════════════════════════════════════════════════════════════
+
+pub tag-agrees : (t : Table) → TableWritable t → Claim t (evaluate t)
+tag-agrees t well room cs fuel s u range fits =
+    record {
+      machine = tag-run t well room cs fuel s u range fits;
+      stack = λ space. tag-stack t well room cs fuel s u space range fits;
+      row = tag-row t well room cs fuel s u range fits;
+      counts = tag-counts (translate t) room cs fuel s u;
+    }
+
+-- of every table that check 6 accepts
+pub tag-read : (bytes : List ℕ) (t : Table) → readTable bytes ≡ table t → Claim t (evaluate t)
+tag-read bytes t e = tag-agrees t (read-writable bytes t e)
+
+-- of the standard table: the run is that of the plain engine
+pub tag-standard : Claim standardTable standard
+tag-standard = subst (Claim standardTable) (fun-ext evaluate-standard) (tag-read standardBytes standardTable standard-read)

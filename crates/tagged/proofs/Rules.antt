@@ -8,24 +8,22 @@ use native.Mathlib.Omega.{arith}
 use lib.IntN.{ℤ, pos, negsuc}
 use lib.ListN.{length}
 use borrow.Author.Tests.{eqb-true, eq-eqb}
-use Rattle.label.specs.Label.{InRange}
 use Rattle.program.specs.Command.{codeOf}
 use Rattle.machine.specs.Rule.{Input, present, missing, Key, Verdict, denied, allowed}
-use Rattle.machine.specs.Holds.{KeyHas}
 use Rattle.step.proofs.Link.Stack.{lowLabel-id}
 use Rattle.policy.specs.Expression.{Table}
 use Rattle.policy.specs.Evaluate.{evaluate}
 use Rattle.policy.specs.Write.{TableWritable}
 use Rattle.policy.specs.Row.{acceptedRow, word, inputWord, keyRow, WellMarked}
-use Rattle.policy.proofs.Hits.{Hit, accepted-hit, hit-accepted}
+use Rattle.policy.proofs.Hits.{accepted-hit, hit-accepted}
 use Rattle.handler.specs.Kernel.{Result, handle}
 use Rattle.handler.specs.Translate.{translate}
 use Rattle.handler.specs.Row.{row, faultRow}
 use Rattle.handler.specs.Row as Handler
 use Rattle.handler.specs.Claim.{outcomeOf, rowOf, Handled}
 use Rattle.handler.proofs.Handler.{handler-run}
-use Rattle.tagged.specs.Consult.{Five, fiveOf, sameWord, matches, missed, ruled, ruledIf, again, faulted, Consulted, consultIf, consult}
-use Rattle.tagged.specs.Claim.{Fits, Counts, Ruled}
+use Rattle.tagged.specs.Consult.{fiveOf, sameWord, matches, ruled, again, faulted, consultIf, consult}
+use Rattle.tagged.specs.Claim.{Fits, Ruled}
 use Rattle.tagged.proofs.Asked.{marked-supplied, marked-has, evaluate-range}
 
 -- ════════════════════════════════════════════════════════════════════════════════════════════

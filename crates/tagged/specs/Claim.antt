@@ -9,11 +9,14 @@ use lib.IntN.{ℤ}
 use lib.ListN.{length}
 use Rattle.program.specs.declared.Command.{Command}
 use Rattle.program.specs.Command.{opcode}
-use Rattle.machine.specs.Rule.{Key, denied}
-use Rattle.machine.specs.State.{State, Stop, end, fuelSpent, pcOutside, valueMissing, frameMissing, addressOutside, denial, stackFull, outputFull}
+use Rattle.machine.specs.Rule.{Key, denied, Policy}
+use Rattle.machine.specs.State.{State, Stop, end, fuelSpent, pcOutside, valueMissing, frameMissing}
+use Rattle.machine.specs.State.{addressOutside, denial, stackFull, outputFull}
 use Rattle.machine.specs.Step.{Request, halt, ask, request}
 use Rattle.machine.specs.Run.{run}
 use Rattle.machine.specs.Stopped.{Here}
+use Rattle.machine.specs.Holds.{LabelsInRange}
+use Rattle.step.specs.Layout.{stackAfter}
 use Rattle.policy.specs.Expression.{Table}
 use Rattle.policy.specs.Evaluate.{evaluate}
 use Rattle.policy.specs.Row.{acceptedRow}
@@ -22,7 +25,7 @@ use Rattle.handler.specs.Translate.{translate}
 use Rattle.handler.specs.Row.{faultRow}
 use Rattle.handler.specs.Claim.{rowOf}
 use Rattle.tagged.specs.Consult.{Tag, fiveOf, Consulted, matches}
-use Rattle.tagged.specs.Run.{Result}
+use Rattle.tagged.specs.Run.{Result, tagRun, tagStack}
 
 -- a rule memory of seven words that check 7 accepts
 pub record Fits (t : Table) (ws : List ℤ) : Type 0 where
@@ -78,9 +81,28 @@ module _ (t : Table) (room : ℕ) (cs : List Command) where
   abbrev pub Leaves : Stop → State → List ℤ → Type 0
   Leaves x s ws = LeavesIf (denies x) s ws
 
--- the counts of a run from s: some of the commands, each step's and the stopped one, did not match, and took at most so many kernel steps
+-- the counts of a run from s: of its commands, one a step and the one that is stopped, some did not match, and each of these took at
+-- most `limit` kernel steps
 pub record Adds (limit : ℕ) (s : State) (u : Tag) (r : Result) : Type 0 where
   pub more : ℕ
   pub faults : r .tag .faults ≡ u .faults + more
   pub most : more + s .steps ≤ r .machine .state .steps + 1
   pub kernelSteps : r .tag .kernelSteps ≤ u .kernelSteps + more * limit
+
+-- ════════════════════════════════════════════════════════════════════════════════════════════
+-- Demand 2
+-- ════════════════════════════════════════════════════════════════════════════════════════════
+
+-- with the handler of t, the run is the machine's under the policy π: lines, cells, stop, steps, place and stack, and every word of
+-- the stack space
+pub record Agrees (t : Table) (π : Policy) (room : ℕ) (cs : List Command) (fuel : ℕ) (s : State) (u : Tag) : Type 0 where
+  pub machine : tagRun (translate t) room cs fuel s u .machine ≡ run π room cs fuel s
+  pub stack : (space : List ℤ) → tagStack (translate t) room cs fuel s u space ≡ stackAfter π room cs fuel s space
+  pub row :
+      let r : Result = tagRun (translate t) room cs fuel s u in Leaves t room cs (r .machine .stop) (r .machine .state) (r .tag .row)
+  pub counts : Adds (length (translate t)) s u (tagRun (translate t) room cs fuel s u)
+
+-- from every state with labels in range and every accepted rule memory
+abbrev pub Claim : Table → Policy → Type 0
+Claim t π =
+    (room : ℕ) (cs : List Command) (fuel : ℕ) (s : State) (u : Tag) → LabelsInRange s → Fits t (u .row) → Agrees t π room cs fuel s u
