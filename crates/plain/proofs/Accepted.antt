@@ -3,12 +3,12 @@
 use mathlib.Core.Path.{_≡_, refl, sym, ap, ap₂, _∙_}
 use mathlib.Core.Bool.{Bool, true, false}
 use mathlib.Core.List.{List, [], _∷_}
-use Prim.Native.Nat.{ℕ, suc, _*_, _^_, _<_, _≤_, min}
+use Prim.Native.Nat.{ℕ, suc, _*_, _^_, _≤_}
 use native.Mathlib.Nat.{min-le-left, min-le-right}
 use native.Mathlib.Omega.{arith}
 use lib.IntN.{ℤ, pos, negsuc}
 use lib.ListN.{length}
-use lib.Dec.{ltb, leb, eqb}
+use lib.Dec.{ltb}
 use borrow.Author.Tests.{ltb-true, leb-true, eqb-true, le-leb}
 use Rattle.word.specs.Lay.{laid}
 use Rattle.word.specs.Wrap.{Signed}
@@ -21,27 +21,26 @@ use Rattle.program.specs.declared.Command.{Command}
 use Rattle.program.specs.declared.Command.the-variants.{Push, Bnz}
 use Rattle.program.specs.declared.Refusal.{Refusal}
 use Rattle.program.specs.declared.Checked.the-variants as Checked
-use Rattle.program.specs.Decode.{Decoded, refused, accepted, decode, decodeFrom, commandLimit, checkAnswer}
+use Rattle.program.specs.Decode.{Decoded, refused, accepted, decode, commandLimit, checkAnswer}
 use Rattle.program.specs.Space.{programWords, loadSpace}
 use Rattle.program.specs.Encode.{AllWritable}
-use Rattle.program.proofs.Decode.{commandsOf, decode-length}
+use Rattle.program.proofs.Decode.{decode-length}
 use Rattle.program.proofs.Encoding.{Bytes, decode-writable}
 use Rattle.program.proofs.Words.{writable-at}
-use Rattle.machine.specs.Atom.{Atom}
 use Rattle.machine.specs.Stopped.{CommandAt}
-use Rattle.machine.specs.Holds.{ProgramHas, Each, AtomHas, LabelsInRange}
+use Rattle.machine.specs.Holds.{ProgramHas, Each, AtomHas}
 use Rattle.machine.proofs.Holds.{program-signed}
 use Rattle.step.specs.Words.{started}
 use Rattle.step.specs.Layout.{stackWords, cellsOf, cellValues, cellLabels}
+use Rattle.step.specs.Lent.{Lent, lent}
+use Rattle.step.proofs.Link.Represents.{Represents, Sound}
 use Rattle.plain.specs.declared.run.Ran.{Ran}
 use Rattle.plain.specs.declared.Answer.the-variants as Answer
 use Rattle.plain.specs.declared.start.Limit.{Limit}
 use Rattle.plain.specs.declared.start.Limit.the-variants.{Broken, Kept}
-use Rattle.plain.specs.Start.{keptIf, orElse, orLabel, cellsLimit, labelsLimit, spaceLimit, fuelLimit, startLimits, startDecoded, startOf, within}
-use Rattle.plain.specs.Step.{Lent, lent}
+use Rattle.plain.specs.Start.{keptIf, orElse, orLabel, cellsLimit, labelsLimit, spaceLimit, startLimits, startDecoded, startOf, within}
 use Rattle.plain.specs.Loop.{done, loopOf}
-use Rattle.plain.specs.Plain.{Memory, memory, Ended, ended, begin, room, outcomeOf, plain}
-use Rattle.plain.proofs.Link.Represents.{Represents, Sound}
+use Rattle.plain.specs.Plain.{Memory, memory, ended, begin, room, outcomeOf, plain}
 use Rattle.plain.proofs.Whole.{loop-run}
 
 never : {A : Type 0} → _≡_ {A = ℕ} 0 1 → A

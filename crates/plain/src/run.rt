@@ -1,12 +1,13 @@
 // One loop over the commands.
 use crate::command;
-use crate::command::Stepped;
 use step::Machine;
+use step::Stepped;
 use word::number::Index;
 ghost use mathlib.Core.Path.{_≡_};
 ghost use Prim.Native.Nat.{_≤_};
 ghost use Rattle.step.specs.Words.{started};
-ghost use Rattle.plain.specs.Step.{after, lent, stepOf};
+ghost use Rattle.step.specs.Lent.{after, lent};
+ghost use Rattle.plain.specs.Step.{stepOf};
 ghost use Rattle.plain.specs.Loop.{done, endOr, loopOf};
 
 // Where a run ended: the machine record, the stop and the steps.
