@@ -1,3 +1,8 @@
+pub mod Asked
+pub mod Rules
+pub mod Steps
+pub mod Faults
+pub mod Refines
 pub mod Ruled
 pub mod Simulate
 pub mod Tags
