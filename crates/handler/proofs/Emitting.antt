@@ -1,15 +1,15 @@
 -- Pieces that were stored, put together: one after the other, before a fixed run of instructions, or round one that was left out.
 -- Assumes nothing.
 use mathlib.Core.Path.{_≡_, refl, sym, ap, subst, _∙_}
-use mathlib.Core.List.{List, [], _∷_, _++_, append-nil}
-use Prim.Native.Nat.{ℕ, suc, _+_, _-_, _*_, _≤_}
+use mathlib.Core.List.{List, [], _∷_, _++_}
+use Prim.Native.Nat.{ℕ, suc, _+_, _-_, _*_}
 use native.Mathlib.Nat.{add-zero}
 use native.Mathlib.Omega.{arith}
 use lib.IntN.{ℤ, pos, negsuc}
 use lib.ListN.{length, length-append}
 use lib.Seq.{append-snoc}
 use Rattle.handler.specs.declared.translate.Mark.{Mark}
-use Rattle.handler.specs.Kernel.{Instruction, Add, Sub, Or, Load, Store, Dup, Jump, Ret, Push, Bnz}
+use Rattle.handler.specs.Kernel.{Instruction, Sub, Or, Load, Store, Dup, Jump, Ret, Push, Bnz}
 use Rattle.handler.specs.Space.{kernelWords}
 use Rattle.handler.specs.Emit.{Piece, piece, twoPieces, joinCode, flowsCode, eitherCode, answerOf, guardedOf}
 use Rattle.handler.specs.Emit.{putAll, putCode, Emits}

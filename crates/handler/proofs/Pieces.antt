@@ -1,7 +1,7 @@
 -- Pieces of a handler by their first byte, as the code reads them, and how long they are.
 -- Assumes nothing.
-use mathlib.Core.Path.{_≡_, refl, sym, ap, _∙_}
-use mathlib.Core.List.{List, [], _∷_, _++_}
+use mathlib.Core.Path.{_≡_, refl}
+use mathlib.Core.List.{List, []}
 use Prim.Native.Nat.{ℕ, zero, suc, _+_, _-_, _*_, _^_, _<_, _≤_}
 use native.Mathlib.Omega.{arith}
 use lib.ListN.{length, getD, length-append}
@@ -15,8 +15,7 @@ use Rattle.policy.specs.Read.{depthLimit}
 use Rattle.policy.proofs.Tokens.{tokenAt-byte, tokenAt-missing}
 use Rattle.handler.specs.declared.translate.Part.{Part}
 use Rattle.handler.specs.declared.translate.Part.the-variants as Part
-use Rattle.handler.specs.Kernel.{Instruction}
-use Rattle.handler.specs.Emit.{Piece, piece, partOf, twoPieces, labelPiece, labelCode, conditionPiece, conditionCode}
+use Rattle.handler.specs.Emit.{piece, partOf, labelPiece, labelCode, conditionPiece, conditionCode}
 use Rattle.handler.specs.Emit.{answerCode, guardedCode, rulePiece, ruleCode}
 
 -- ════════════════════════════════════════════════════════════════════════════════════════════

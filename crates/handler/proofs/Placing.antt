@@ -11,7 +11,7 @@ use Rattle.handler.specs.declared.translate.Mark.{Mark}
 use Rattle.handler.specs.Kernel.{Instruction, Bnz}
 use Rattle.handler.specs.Space.{kernelWords}
 use Rattle.handler.specs.Translate.{concat, slots, dispatch}
-use Rattle.handler.specs.Emit.{Piece, ruleCode, bodiesAt, tableCode, putAll, putCode, Emits, placed, placedEnd}
+use Rattle.handler.specs.Emit.{ruleCode, bodiesAt, tableCode, putAll, putCode, Emits, placed, placedEnd}
 use Rattle.handler.proofs.Dispatch.{slots-length}
 use Rattle.handler.proofs.Putting.{putCode-append, putCode-comm}
 use Rattle.handler.proofs.Pieces.{rule-length}

@@ -26,10 +26,10 @@ use Rattle.handler.specs.declared.translate.Translated.the-variants as T
 use Rattle.handler.specs.Kernel.{Instruction}
 use Rattle.handler.specs.Translate.{compileLabel, compileCondition, compileAnswer, compileIf, guarded, compileRule}
 use Rattle.handler.specs.Translate.{slots, concat, dispatch, translate}
-use Rattle.handler.specs.Emit.{Piece, piece, twoPieces, joinCode, flowsCode, eitherCode, partOf, labelPiece, labelCode}
+use Rattle.handler.specs.Emit.{Piece, piece, joinCode, flowsCode, eitherCode, partOf, labelPiece, labelCode}
 use Rattle.handler.specs.Emit.{conditionPiece, conditionCode, answerOf, answerCode, guardedOf, guardedCode, rulePiece, ruleCode}
 use Rattle.handler.specs.Emit.{bodiesAt, tableCode, putCode}
-use Rattle.handler.specs.Translated.{handlerCount, Translation, laidIf, translateOf}
+use Rattle.handler.specs.Translated.{handlerCount, laidIf, translateOf}
 use Rattle.handler.proofs.Putting.{putCode-laid}
 
 -- a piece is the translation of what was found, with the offset after it
@@ -99,9 +99,11 @@ module _ (n : ℕ) (s : List ℕ) where
       then-is compileLabel compileLabel compileCondition flows flowsCode (λ a b. refl) (label (at + 1)) (codeL (at + 1)) label codeL (g (at + 1)) g
   condition-from Token.True at label inner codeL code g h = refl
   condition-from Token.And at label inner codeL code g h =
-      then-is compileCondition compileCondition compileCondition both joinCode (λ a b. refl) (inner (at + 1)) (code (at + 1)) inner code (h (at + 1)) h
+      then-is compileCondition compileCondition compileCondition both joinCode (λ a b. refl)
+      (inner (at + 1)) (code (at + 1)) inner code (h (at + 1)) h
   condition-from Token.Or at label inner codeL code g h =
-      then-is compileCondition compileCondition compileCondition either eitherCode (λ a b. refl) (inner (at + 1)) (code (at + 1)) inner code (h (at + 1)) h
+      then-is compileCondition compileCondition compileCondition either eitherCode (λ a b. refl)
+      (inner (at + 1)) (code (at + 1)) inner code (h (at + 1)) h
   condition-from Token.Nothing at label inner codeL code g h = tt
 
   condition-is : (d at : ℕ) → Is compileCondition (readCondition d n s at) (conditionCode d s at)

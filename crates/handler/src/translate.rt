@@ -214,8 +214,8 @@ fn emit_both(bytes: &[u8], mark: Mark, depth: usize, space: &mut [i64]) -> Mark
     let first = emit_condition(bytes, mark, depth, space);
     let second = emit_condition(bytes, first, depth, space);
     let position = second.position;
-    let or = [0x0c, 0];
-    emit(space, position, &or);
+    let bits = [0x0c, 0];
+    emit(space, position, &bits);
     Mark {
         next: second.next,
         position: position + 1,

@@ -4,7 +4,6 @@
 use mathlib.Core.Path.{_≡_, _∙_, sym, ap}
 use Prim.Native.Nat.{ℕ, _+_, _-_, _*_, _^_, _<_, _≤_}
 use native.Mathlib.Omega.{arith}
-use lib.ListN.{length}
 use denote.Ref.{now}
 use mir.Syntax.{w64}
 use mir.Facts.{toZ-pos}
@@ -104,8 +103,11 @@ module _ (t : ℕ)
       condition-first (begin .args .depth) (now (begin .args .bytes)) (begin .args .mark .next) (b .before .if1 .left) (b .if2 .left) x d
 
 -- two yes/no expressions were translated, one after the other
-module _ (t : ℕ) (l2 : emit-both-lts.After-emit-condition2 (emit-condition-below t, emit-condition.Post, emit.Asked, emit.Learnt) (emit-both-at t) emit-both.Post) where
-  abbrev first-both : emit-both-lts.After-emit-condition (emit-condition-below t, emit-condition.Post, emit.Asked, emit.Learnt) (emit-both-at t) emit-both.Post
+module _ (t : ℕ)
+    (l2 : emit-both-lts.After-emit-condition2
+    (emit-condition-below t, emit-condition.Post, emit.Asked, emit.Learnt) (emit-both-at t) emit-both.Post) where
+  abbrev first-both : emit-both-lts.After-emit-condition
+      (emit-condition-below t, emit-condition.Post, emit.Asked, emit.Learnt) (emit-both-at t) emit-both.Post
   first-both = l2 .before .before .before
 
   abbrev begin-both : emit-both-lts.Start (emit-condition-below t, emit-condition.Post, emit.Asked, emit.Learnt) (emit-both-at t) emit-both.Post
@@ -124,8 +126,11 @@ module _ (t : ℕ) (l2 : emit-both-lts.After-emit-condition2 (emit-condition-bel
       )
 
 -- or the second four places behind the first
-module _ (t : ℕ) (l2 : emit-either-lts.After-emit-condition2 (emit-condition-below t, emit-condition.Post, emit.Asked, emit.Learnt) (emit-either-at t) emit-either.Post) where
-  abbrev first-either : emit-either-lts.After-emit-condition (emit-condition-below t, emit-condition.Post, emit.Asked, emit.Learnt) (emit-either-at t) emit-either.Post
+module _ (t : ℕ)
+    (l2 : emit-either-lts.After-emit-condition2
+    (emit-condition-below t, emit-condition.Post, emit.Asked, emit.Learnt) (emit-either-at t) emit-either.Post) where
+  abbrev first-either : emit-either-lts.After-emit-condition
+      (emit-condition-below t, emit-condition.Post, emit.Asked, emit.Learnt) (emit-either-at t) emit-either.Post
   first-either = l2 .before .before .before
 
   abbrev begin-either : emit-either-lts.Start (emit-condition-below t, emit-condition.Post, emit.Asked, emit.Learnt) (emit-either-at t) emit-either.Post
@@ -219,11 +224,11 @@ pub +emit-both+emit-condition+emit-either-spec : {M : Type 1} → statement M
     (λ c. search needs)
     -- emit-requires
     (λ c κs.
-    let s = c .before .before .before .before .before .before .before .before .before .before in
+    let s = begin t (c .before .before .before .before) in
     let h : s .args .mark .position ≤ 2 ^ 20 = omega (arith, s .pre .1) in
     (h, omega arith))
     -- add-t21
-    (λ c. let s = c .before .before .before .before .before .before .before .before .before .before .before .before in record { fits = omega (arith, s .pre .1) })
+    (λ c. let s = begin t (c .before .before .before .before .before .before) in record { fits = omega (arith, s .pre .1) })
     -- enum-told-2
     (λ c. search needs)
     -- sub-emit-flows

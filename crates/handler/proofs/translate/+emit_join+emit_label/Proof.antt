@@ -3,7 +3,6 @@
 use mathlib.Core.Path.{_≡_, _∙_, sym, ap}
 use Prim.Native.Nat.{ℕ, _+_, _-_, _*_, _^_, _<_, _≤_}
 use native.Mathlib.Omega.{arith}
-use lib.ListN.{length}
 use denote.Ref.{now}
 use mir.Syntax.{w64}
 use mir.Facts.{toZ-pos}
@@ -69,7 +68,8 @@ module _ (t : ℕ)
   few address e = omega (arith, word-few (l .before .token-of .result) address (sym (l .part-of .ensures) ∙ e))
 
 -- two label expressions were translated
-module _ (t : ℕ) (l2 : emit-join-lts.After-emit-label2 (emit-label-below t, emit-label.Post, emit.Asked, emit.Learnt) (emit-join-at t) emit-join.Post) where
+module _ (t : ℕ)
+    (l2 : emit-join-lts.After-emit-label2 (emit-label-below t, emit-label.Post, emit.Asked, emit.Learnt) (emit-join-at t) emit-join.Post) where
   abbrev l1 : emit-join-lts.After-emit-label (emit-label-below t, emit-label.Post, emit.Asked, emit.Learnt) (emit-join-at t) emit-join.Post
   l1 = l2 .before .before .before
 
@@ -125,7 +125,9 @@ pub +emit-join+emit-label-spec : {M : Type 1} → statement M
     (token-of.Asked, token-of.Learnt, part-of.Asked, part-of.Learnt, emit.Asked, emit.Learnt, emit-join-below t, emit-join.Post)
     (emit-label-at t) emit-label.Post
     -- returns: too deep
-    (λ c. let a = c .before .before .args in emits-nothing _ (a .mark) _ (label-deep (a .depth) (now (a .bytes)) (a .mark .next) (c .if1 .taken)))
+    (λ c.
+    let a = c .before .before .args in
+    emits-nothing _ (a .mark) _ (label-deep (a .depth) (now (a .bytes)) (a .mark .next) (c .if1 .taken)))
     -- returns-2: missing
     (λ c.
     let a = c .before .before .before .args in
@@ -144,11 +146,11 @@ pub +emit-join+emit-label-spec : {M : Type 1} → statement M
     (λ c. search needs)
     -- emit-requires
     (λ c κs.
-    let s = c .before .before .before .before .before .before .before .before .before .before in
+    let s = begin t (c .before .before .before .before) in
     let h : s .args .mark .position ≤ 2 ^ 20 = omega (arith, s .pre .1) in
     (h, omega arith))
     -- add-t23
-    (λ c. let s = c .before .before .before .before .before .before .before .before .before .before .before .before in record { fits = omega (arith, s .pre .1) })
+    (λ c. let s = begin t (c .before .before .before .before .before .before) in record { fits = omega (arith, s .pre .1) })
     -- enum-known-part
     (λ c. search needs)
     -- cast-t24
@@ -157,11 +159,11 @@ pub +emit-join+emit-label-spec : {M : Type 1} → statement M
     (λ c. search needs)
     -- emit-requires-2
     (λ c κs.
-    let s = c .before .before .before .before .before .before .before .before .before .before .before in
+    let s = begin t (c .before .before .before .before .before) in
     let h : s .args .mark .position ≤ 2 ^ 20 = omega (arith, s .pre .1) in
     (h, omega arith))
     -- add-t30
-    (λ c. let s = c .before .before .before .before .before .before .before .before .before .before .before .before .before in record { fits = omega (arith, s .pre .1) })
+    (λ c. let s = begin t (c .before .before .before .before .before .before .before) in record { fits = omega (arith, s .pre .1) })
     -- enum-told-2
     (λ c. search needs)
     -- sub-emit-join

@@ -1,6 +1,6 @@
 -- The proof of the cycle of calls {skip_label}: the depth falls.
 -- Assumes nothing.
-use mathlib.Core.Path.{_≡_, _∙_, sym, ap}
+use mathlib.Core.Path.{_∙_, sym, ap}
 use Prim.Native.Nat.{ℕ, _-_, _<_}
 use native.Mathlib.Omega.{arith}
 use denote.Ref.{now}
@@ -55,11 +55,15 @@ pub +skip-label-spec : {M : Type 1} → statement M
     -- sub-skip-label
     (λ c. search needs)
     -- skip-label-requires
-    (λ c κs. (let b = c .before .before .before .before .before in omega (arith, b .before .if1 .left, b .before .before .before .pre .0), tt))
+    (λ c κs.
+    let b = c .before .before .before .before .before in
+    (omega (arith, b .before .if1 .left, b .before .before .before .pre .0), tt))
     -- sub-skip-label-2
     (λ c. search needs)
     -- skip-label-requires-2
-    (λ c κs. (let b = c .before .before .before .before .before .before in omega (arith, b .before .if1 .left, b .before .before .before .pre .0), tt))
+    (λ c κs.
+    let b = c .before .before .before .before .before .before in
+    (omega (arith, b .before .if1 .left, b .before .before .before .pre .0), tt))
     -- enum-told-4
     (λ c. search needs)
     -- returns-3
