@@ -12,8 +12,8 @@ use lib.Dec.{eqb}
 use borrow.Author.Tests.{eq-eqb, ne-eqb}
 use Rattle.word.specs.declared.number.Index.the-variants.{At, Outside}
 use Rattle.word.specs.Number.{indexOf}
+use Rattle.word.specs.Wrap.{residue}
 use Rattle.step.specs.declared.Machine.{Machine}
-use Rattle.step.specs.declared.phase.Inputs.{Inputs}
 use Rattle.step.specs.Words.{choose, started}
 use Rattle.step.specs.Lent.{outcome, Lent, After, after}
 use Rattle.step.specs.Phase.{inputsOf}
@@ -41,17 +41,15 @@ module _ (handler : List ℤ → Result) (size : ℕ) (short : (row : List ℤ) 
       go true = record { faults = omega arith; kernelSteps = omega arith }
       go false = record { faults = omega arith; kernelSteps = short _ }
 
+  choose-few : (b : Bool) (x y : Acted) → Few size (x .consulted) → Few size (y .consulted) → Few size (choose b x y .consulted)
+  choose-few true x y f g = f
+  choose-few false x y f g = g
+
   pub act-few : (room : ℕ) (word operand : ℤ) (m : Machine) (l : Lent) (row : List ℤ)
       → Few size (actOf handler room word operand m l row .consulted)
   unfolding actOf
-  act-few room word operand m l row = go (eqb (i .stop) 9)
-    where
-      i : Inputs
-      i = inputsOf _ m (l .stack) (l .values) (l .labels)
-
-      go : (b : Bool) → Few size (choose b _ _ .consulted)
-      go true = consult-few _ row
-      go false = record { faults = omega arith; kernelSteps = omega arith }
+  act-few room word operand m l row = choose-few (eqb (inputsOf (residue 64 word) m (l .stack) (l .values) (l .labels) .stop) 9) _ _
+      (consult-few _ row) (record { faults = omega arith; kernelSteps = omega arith })
 
 -- ════════════════════════════════════════════════════════════════════════════════════════════
 -- The loop
@@ -109,7 +107,9 @@ module _ (handler : List ℤ → Result) (size : ℕ) (count room fuel : ℕ) (p
           sums-are = ap (λ (x : Tag). tag (x .row) (t .faults + x .faults) (t .kernelSteps + x .kernelSteps)) k
 
           pub going-stopped : (stop ≡ 9 → ⊥) → done m′ stop steps sums l′ ≡ loopOf handler count room program fuel 0 started (tag row₀ 0 0) l₀
-          going-stopped f = rw (e, ← d, ← sums-are, ne-eqb stop 9 f) at next
+          going-stopped f =
+              ap (λ (x : Tag). done m′ stop steps x l′) sums-are
+              ∙ rw (e, ← d, ne-eqb stop 9 f) at next
 
           pub going-on : stop ≡ 9 → SameLengths l′ l → Few size (acts .consulted) → Going m′ sums l′ (steps + 1)
           going-on f s few =
@@ -118,7 +118,9 @@ module _ (handler : List ℤ → Result) (size : ℕ) (count room fuel : ℕ) (p
               let kernel : u .kernelSteps ≡ acts .consulted .kernelSteps = ap (λ (x : Tag). x .kernelSteps) k in
               record {
                 few = omega arith;
-                left = rw (e, ← d, ← sums-are, eq-eqb stop 9 f) at next;
+                left =
+                    ap (λ (x : Tag). loopOf handler count room program (fuel - (steps + 1)) (steps + 1) m′ x l′) sums-are
+                    ∙ rw (e, ← d, eq-eqb stop 9 f) at next;
                 same =
                     record {
                       stack = s .stack ∙ same .stack;

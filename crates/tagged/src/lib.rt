@@ -83,9 +83,10 @@ pub fn execute(
                 marks,
             );
             let ran = left.ran;
+            let row = left.cache;
             Tagged {
                 answer: Answer::Stopped(ran),
-                cache: left.cache,
+                cache: row,
             }
         }
     }
