@@ -8,5 +8,7 @@ pub mod Ruled
 pub mod Simulate
 pub mod Tags
 pub mod Whole
+pub mod Starting
 pub mod Accepted
+pub mod Acting
 pub mod Going

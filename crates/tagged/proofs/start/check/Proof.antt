@@ -1,4 +1,10 @@
 use borrow.Author.Needs.{needs}
+use mathlib.Core.Path.{sym, _∙_}
+use denote.Ref.{now}
+use Rattle.program.specs.Decode.{decode}
+use Rattle.policy.specs.Read.{readTable}
+use Rattle.tagged.specs.Start.{startOf}
+use Rattle.tagged.proofs.Starting.{start-refused, start-broken, start-kept}
 use Rattle.tagged.proofs.start.check.Statement.{statement}
 use Rattle.tagged.proofs.start.check.Tie as tie
 use Rattle.tagged.proofs.start.check.Reads as reads
@@ -32,15 +38,33 @@ enum-told c = search needs
 
 -- src/start.rt:64:1
 returns : tie.Need-returns
-returns c = ?
+unfolding startOf
+returns c =
+    let a = c .before .before .before .before .before .before .args in
+    start-refused (readTable (now (a .table))) (a .cache .words) (a .values) (now (a .labels)) (a .program) (a .stack) (a .words) (a .fuel) (decode (now (a .sheet))) (c .before .sheet-answer .given .0 .0)
+    (sym (c .before .sheet-answer .given .1) ∙ c .before .before .before .check .ensures)
 
 -- src/start.rt:64:1
 returns-2 : tie.Need-returns-2
-returns-2 c = ?
+unfolding startOf
+returns-2 c =
+    let l = c .before .before .before in
+    let sheet = l .before .before in
+    let a = sheet .before .before .before .before .before .args in
+    start-broken (readTable (now (a .table))) (a .cache .words) (a .values) (now (a .labels)) (a .program) (a .stack) (a .words) (a .fuel) (decode (now (a .sheet)))
+    (sheet .sheet-answer2 .given .0 .0) (sym (sheet .sheet-answer2 .given .1) ∙ sheet .before .before .check .ensures)
+    (c .before .limit .given .0 .0) (sym (l .limits .ensures) ∙ c .before .limit .given .1)
 
 -- src/start.rt:64:1
 returns-3 : tie.Need-returns-3
-returns-3 c = ?
+unfolding startOf
+returns-3 c =
+    let l = c .before .before in
+    let sheet = l .before .before in
+    let a = sheet .before .before .before .before .before .args in
+    start-kept (readTable (now (a .table))) (a .cache .words) (a .values) (now (a .labels)) (a .program) (a .stack) (a .words) (a .fuel) (decode (now (a .sheet)))
+    (sheet .sheet-answer2 .given .0 .0) (sym (sheet .sheet-answer2 .given .1) ∙ sheet .before .before .check .ensures)
+    (sym (l .limits .ensures) ∙ c .enum-told .given .1)
 
 pub check-spec : {M : Type 1} → statement M
 check-spec =

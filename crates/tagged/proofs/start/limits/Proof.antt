@@ -1,4 +1,7 @@
 use borrow.Author.Needs.{needs}
+use mathlib.Core.Path.{ap₂, _∙_}
+use Rattle.plain.specs.Start.{orElse}
+use Rattle.tagged.specs.Start.{startLimits}
 use Rattle.tagged.proofs.start.limits.Statement.{statement}
 use Rattle.tagged.proofs.start.limits.Tie as tie
 use Rattle.tagged.proofs.start.limits.Reads as reads
@@ -66,7 +69,31 @@ or-else-requires-6 c κs = search needs
 
 -- src/start.rt:39:1
 returns : tie.Need-returns
-returns c = ?
+unfolding startLimits
+returns c =
+    let o5 = c .before in
+    let words = o5 .before in
+    let cells = words .before in
+    let o4 = cells .before in
+    let o3 = o4 .before in
+    let row = o3 .before in
+    let rules = row .before in
+    let o2 = rules .before in
+    let o1 = o2 .before in
+    let fuel = o1 .before in
+    let handler = fuel .before in
+    let space = handler .before in
+    c .or-else6 .ensures
+    ∙ ap₂ orElse (cells .cells .ensures)
+    (o5 .or-else5 .ensures
+    ∙ ap₂ orElse (words .label-words .ensures)
+    (o4 .or-else4 .ensures
+    ∙ ap₂ orElse (rules .rules .ensures)
+    (o3 .or-else3 .ensures
+    ∙ ap₂ orElse (row .row .ensures)
+    (o2 .or-else2 .ensures
+    ∙ ap₂ orElse (space .space .ensures)
+    (o1 .or-else .ensures ∙ ap₂ orElse (handler .handler .ensures) (fuel .allowance .ensures))))))
 
 pub limits-spec : {M : Type 1} → statement M
 limits-spec =

@@ -1,4 +1,8 @@
 use borrow.Author.Needs.{needs}
+use mathlib.Core.Path.{ap, _∙_}
+use mathlib.Core.Bool.{Bool}
+use Rattle.program.specs.Decode.{refusal}
+use Rattle.plain.specs.Start.{keptIf}
 use Rattle.tagged.proofs.start.row.Statement.{statement}
 use Rattle.tagged.proofs.start.row.Tie as tie
 use Rattle.tagged.proofs.start.row.Reads as reads
@@ -16,7 +20,7 @@ kept-if-requires c κs = search needs
 
 -- src/start.rt:25:1
 returns : tie.Need-returns
-returns c = ?
+returns c = c .kept-if .ensures ∙ ap (λ (b : Bool). keptIf b (refusal 7 0)) (c .before .check-row .ensures)
 
 pub row-spec : {M : Type 1} → statement M
 row-spec = tie.close (tie.spec check-row-requires kept-if-requires returns)

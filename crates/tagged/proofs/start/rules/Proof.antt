@@ -1,4 +1,8 @@
 use borrow.Author.Needs.{needs}
+use mathlib.Core.Path.{sym, _∙_}
+use denote.Ref.{now}
+use Rattle.policy.specs.Read.{readTable}
+use Rattle.tagged.proofs.Starting.{rules-kept, rules-broken}
 use Rattle.tagged.proofs.start.rules.Statement.{statement}
 use Rattle.tagged.proofs.start.rules.Tie as tie
 use Rattle.tagged.proofs.start.rules.Reads as reads
@@ -19,11 +23,16 @@ enum-known-checked c = search needs
 
 -- src/start.rt:15:1
 returns : tie.Need-returns
-returns c = ?
+returns c =
+    let a = c .before .before in
+    rules-kept (readTable (now (a .before .before .args .table))) (sym (c .enum-told .given .1) ∙ a .check-table .ensures)
 
 -- src/start.rt:15:1
 returns-2 : tie.Need-returns-2
-returns-2 c = ?
+returns-2 c =
+    let k = c .before in
+    let a = k .before .before in
+    rules-broken (readTable (now (a .before .before .args .table))) _ (sym (k .checked .given .1) ∙ a .check-table .ensures)
 
 pub rules-spec : {M : Type 1} → statement M
 rules-spec =
