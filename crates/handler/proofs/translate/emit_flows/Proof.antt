@@ -42,8 +42,8 @@ slice-aggregate-emit c = search needs
 emit-requires : tie.Need-emit-requires
 emit-requires c κs = let l = c .before .before .before in (omega (arith, room1 l, begin l .pre), omega arith)
 
-add-t14 : tie.Need-add-t14
-add-t14 c = let l = c .before .before .before .before .before in record { fits = omega (arith, room1 l, begin l .pre) }
+add-behind : tie.Need-add-behind
+add-behind c = let l = c .before .before .before .before .before in record { fits = omega (arith, room1 l, begin l .pre) }
 
 emit-label-requires-2 : tie.Need-emit-label-requires-2
 emit-label-requires-2 c κs = let l = c .before .before .before .before .before .before in omega (arith, room1 l, begin l .pre)
@@ -54,8 +54,8 @@ slice-aggregate-emit-2 c = search needs
 emit-requires-2 : tie.Need-emit-requires-2
 emit-requires-2 c κs = let l = c .before .before .before in (omega (arith, room2 l, begin (l1 l) .pre), omega arith)
 
-add-t14-2 : tie.Need-add-t14-2
-add-t14-2 c = let l = c .before .before .before .before .before in record { fits = omega (arith, room2 l, begin (l1 l) .pre) }
+add-end : tie.Need-add-end
+add-end c = let l = c .before .before .before .before .before in record { fits = omega (arith, room2 l, begin (l1 l) .pre) }
 
 same-length : tie.Need-same-length
 same-length c = search needs
@@ -76,10 +76,10 @@ emit-flows-spec =
     emit-label-requires
     slice-aggregate-emit
     emit-requires
-    add-t14
+    add-behind
     emit-label-requires-2
     slice-aggregate-emit-2
     emit-requires-2
-    add-t14-2
+    add-end
     same-length
     returns)
