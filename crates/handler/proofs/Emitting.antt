@@ -1,8 +1,9 @@
--- Pieces that were stored, put together: one after the other, before a fixed run of instructions, or round one that was left out.
+-- Pieces that were stored, put together: one after the other, before a fixed run of instructions, or round one that was left out; and
+-- how far they reach.
 -- Assumes nothing.
 use mathlib.Core.Path.{_≡_, refl, sym, ap, subst, _∙_}
 use mathlib.Core.List.{List, [], _∷_, _++_}
-use Prim.Native.Nat.{ℕ, suc, _+_, _-_, _*_}
+use Prim.Native.Nat.{ℕ, suc, _+_, _-_, _*_, _^_, _≤_}
 use native.Mathlib.Nat.{add-zero}
 use native.Mathlib.Omega.{arith}
 use lib.IntN.{ℤ, pos, negsuc}
@@ -12,7 +13,8 @@ use Rattle.handler.specs.declared.translate.Mark.{Mark}
 use Rattle.handler.specs.Kernel.{Instruction, Sub, Or, Load, Store, Dup, Jump, Ret, Push, Bnz}
 use Rattle.handler.specs.Space.{kernelWords}
 use Rattle.handler.specs.Emit.{Piece, piece, twoPieces, joinCode, flowsCode, eitherCode, answerOf, guardedOf}
-use Rattle.handler.specs.Emit.{putAll, putCode, Emits}
+use Rattle.handler.specs.Emit.{labelCode, conditionCode, answerCode, putAll, putCode, Emits}
+use Rattle.handler.proofs.Pieces.{label-length, condition-length, answer-length}
 use Rattle.handler.proofs.Putting.{putCode-append, putCode-late}
 
 abbrev pub mark : (next position : ℕ) → Mark
@@ -134,3 +136,18 @@ emits-guarded c answer start s0 r1 s1 e1 r2 s2 e2 s3 e3 s4 e4 =
     let f : Emits a (r1 .position + 1) s1 r2 s2 = subst (λ k. Emits (answer k) (r1 .position + 1) s1 r2 s2) (e1 .next) e2 in
     let d : r2 .position - r1 .position ≡ suc (length (a .code)) = omega (arith, f .position) in
     rw (f .next) (emits-put (emits-late e1 (Bnz (pos (suc (length (a .code)))) ∷ []) a f (rw d at e3)) (Push (negsuc 0) ∷ Jump ∷ []) (a .next) e4)
+
+-- ════════════════════════════════════════════════════════════════════════════════════════════
+-- How far they reach
+-- ════════════════════════════════════════════════════════════════════════════════════════════
+
+module _ {start : ℕ} {before after : List ℤ} {r : Mark} where
+  pub label-room : (d : ℕ) (s : List ℕ) (at : ℕ) → Emits (labelCode d s at) start before r after → r .position + 1 ≤ start + 3 * 2 ^ d
+  label-room d s at e = omega (arith, e .position, label-length d s at)
+
+  pub condition-room : (d : ℕ) (s : List ℕ) (at : ℕ) → Emits (conditionCode d s at) start before r after
+      → r .position + 4 ≤ start + 8 * 2 ^ d
+  condition-room d s at e = omega (arith, e .position, condition-length d s at)
+
+  pub answer-room : (s : List ℕ) (at : ℕ) → Emits (answerCode s at) start before r after → r .position ≤ start + 1539
+  answer-room s at e = omega (arith, e .position, answer-length s at)

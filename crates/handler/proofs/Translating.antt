@@ -15,7 +15,7 @@ use Rattle.program.specs.declared.Refusal.{Refusal}
 use Rattle.policy.specs.declared.Checked.the-variants as Checked
 use Rattle.policy.specs.declared.expression.Token.{Token}
 use Rattle.policy.specs.declared.expression.Token.the-variants as Token
-use Rattle.policy.specs.Expression.{LabelExpr, empty, place, input1, input2, input3, join, Condition, flows, always, both, either, Rule, Table}
+use Rattle.policy.specs.Expression.{LabelExpr, empty, input1, input2, input3, join, Condition, flows, always, both, either, Rule, Table}
 use Rattle.policy.specs.Token.{tokenOf, tokenAt}
 use Rattle.policy.specs.Value.{testOf}
 use Rattle.policy.specs.Ask.{checkAnswer}

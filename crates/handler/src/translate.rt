@@ -153,25 +153,28 @@ fn emit_flows(bytes: &[u8], mark: Mark, depth: usize, space: &mut [i64]) -> Mark
     ensures { λ r. ⌜ Emitted (twoPieces flowsCode (labelCode depth (now (bytes .entry)))) mark (now (space .entry)) r (now (space .exit)) ⌝ }
 {
     let start = mark.next;
+    let after = skip_label(bytes, start, depth);
     let second = Mark {
-        next: skip_label(bytes, start, depth),
+        next: after,
         position: mark.position,
     };
     let target = emit_label(bytes, second, depth, space);
     let place = target.position;
     let dup = [0x0d, 0];
     emit(space, place, &dup);
+    let behind = place + 1;
     let first = Mark {
         next: start,
-        position: place + 1,
+        position: behind,
     };
     let source = emit_label(bytes, first, depth, space);
     let position = source.position;
     let less = [0x0c, 0, 0x02, 0];
     emit(space, position, &less);
+    let end = position + 2;
     Mark {
         next: target.next,
-        position: position + 2,
+        position: end,
     }
 }
 

@@ -13,8 +13,8 @@ use borrow.Fn.PlainCycle.{Measures, is, falls, and}
 use Rattle.policy.specs.declared.expression.Test.{Test}
 use Rattle.policy.specs.Value.{testOf}
 use Rattle.handler.specs.Emit.{labelCode, conditionPiece, conditionCode}
-use Rattle.handler.proofs.Pieces.{condition-deep, condition-missing, condition-first, condition-length, pow-pred, pow-pos}
-use Rattle.handler.proofs.Emitting.{emits-nothing, emits-zero, emits-join, emits-either}
+use Rattle.handler.proofs.Pieces.{condition-deep, condition-missing, condition-first, pow-pred, pow-pos}
+use Rattle.handler.proofs.Emitting.{emits-nothing, emits-zero, emits-join, emits-either, condition-room}
 use Rattle.handler.proofs.translate.emit_both.Reads as emit-both
 use Rattle.handler.proofs.translate.emit_both.Kinds as emit-both-kinds
 use Rattle.handler.proofs.translate.+emit_both+emit_condition+emit_either.Lts-emit_both as emit-both-lts
@@ -110,20 +110,13 @@ module _ (t : ℕ)
       (emit-condition-below t, emit-condition.Post, emit.Asked, emit.Learnt) (emit-both-at t) emit-both.Post
   first-both = l2 .before .before .before
 
-  abbrev begin-both : emit-both-lts.Start (emit-condition-below t, emit-condition.Post, emit.Asked, emit.Learnt) (emit-both-at t) emit-both.Post
+  abbrev begin-both : emit-both-lts.Start
+      (emit-condition-below t, emit-condition.Post, emit.Asked, emit.Learnt) (emit-both-at t) emit-both.Post
   begin-both = first-both .before .before .before
 
   room-both : l2 .emit-condition2 .result .position < 2 ^ 20
   room-both =
-      let a = begin-both .args in
-      omega (
-        arith,
-        begin-both .pre .1,
-        first-both .emit-condition .ensures .position,
-        l2 .emit-condition2 .ensures .position,
-        condition-length (a .depth) (now (a .bytes)) (a .mark .next),
-        condition-length (a .depth) (now (a .bytes)) (first-both .emit-condition .result .next),
-      )
+      omega (arith, begin-both .pre .1, condition-room _ _ _ (first-both .emit-condition .ensures), condition-room _ _ _ (l2 .emit-condition2 .ensures))
 
 -- or the second four places behind the first
 module _ (t : ℕ)
@@ -133,20 +126,13 @@ module _ (t : ℕ)
       (emit-condition-below t, emit-condition.Post, emit.Asked, emit.Learnt) (emit-either-at t) emit-either.Post
   first-either = l2 .before .before .before
 
-  abbrev begin-either : emit-either-lts.Start (emit-condition-below t, emit-condition.Post, emit.Asked, emit.Learnt) (emit-either-at t) emit-either.Post
+  abbrev begin-either : emit-either-lts.Start
+      (emit-condition-below t, emit-condition.Post, emit.Asked, emit.Learnt) (emit-either-at t) emit-either.Post
   begin-either = first-either .before .before .before
 
   room-either : l2 .emit-condition2 .result .position < 2 ^ 20
   room-either =
-      let a = begin-either .args in
-      omega (
-        arith,
-        begin-either .pre .1,
-        first-either .emit-condition .ensures .position,
-        l2 .emit-condition2 .ensures .position,
-        condition-length (a .depth) (now (a .bytes)) (a .mark .next),
-        condition-length (a .depth) (now (a .bytes)) (first-either .emit-condition .result .next),
-      )
+      omega (arith, begin-either .pre .1, condition-room _ _ _ (first-either .emit-condition .ensures), condition-room _ _ _ (l2 .emit-condition2 .ensures))
 
   behind : first-either .emit-condition .result .position + 4 ≤ l2 .emit-condition2 .result .position
   behind = omega (arith, l2 .emit-condition2 .ensures .position)
@@ -167,11 +153,10 @@ pub +emit-both+emit-condition+emit-either-spec : {M : Type 1} → statement M
     (f, omega (arith, p .1)))
     -- emit-condition-requires-2
     (λ c κs.
-    let e1 = c .before .before .emit-condition .ensures in
     let s = c .before .before .before .before .before in
     let a = s .args in
     let f : 2 * a .depth < t = omega (arith, s .pre .0) in
-    (f, omega (arith, s .pre .1, e1 .position, condition-length (a .depth) (now (a .bytes)) (a .mark .next))))
+    (f, omega (arith, s .pre .1, condition-room _ _ _ (c .before .before .emit-condition .ensures))))
     -- slice-aggregate-emit
     (λ c. search needs)
     -- emit-requires
@@ -310,15 +295,13 @@ pub +emit-both+emit-condition+emit-either-spec : {M : Type 1} → statement M
     -- add-over
     (λ c.
     let s = c .before .before .before .before in
-    let a = s .args in
-    let l = condition-length (a .depth) (now (a .bytes)) (a .mark .next) in
-    record { fits = omega (arith, s .pre .1, c .before .emit-condition .ensures .position, l) })
+    record { fits = omega (arith, s .pre .1, condition-room _ _ _ (c .before .emit-condition .ensures)) })
     -- emit-condition-requires-2
     (λ c κs.
     let s = c .before .before .before .before .before in
     let a = s .args in
     let f : 2 * a .depth < t = omega (arith, s .pre .0) in
-    (f, omega (arith, s .pre .1, c .before .before .emit-condition .ensures .position, condition-length (a .depth) (now (a .bytes)) (a .mark .next))))
+    (f, omega (arith, s .pre .1, condition-room _ _ _ (c .before .before .emit-condition .ensures))))
     -- sub-over
     (λ c. omega (arith, behind t (c .before .before)))
     -- sub-over-2

@@ -12,8 +12,8 @@ use borrow.Fn.PlainCycle.{Measures, is, falls, and}
 use Rattle.handler.specs.declared.translate.Part.{Part}
 use Rattle.handler.specs.declared.translate.Part.the-variants as Part
 use Rattle.handler.specs.Emit.{partOf, labelPiece, labelCode}
-use Rattle.handler.proofs.Pieces.{label-deep, label-missing, label-first, label-length, pow-pred, word-few}
-use Rattle.handler.proofs.Emitting.{emits-nothing, emits-zero, emits-read, emits-join}
+use Rattle.handler.proofs.Pieces.{label-deep, label-missing, label-first, pow-pred, word-few}
+use Rattle.handler.proofs.Emitting.{emits-nothing, emits-zero, emits-read, emits-join, label-room}
 use Rattle.handler.proofs.translate.emit_join.Reads as emit-join
 use Rattle.handler.proofs.translate.emit_join.Kinds as emit-join-kinds
 use Rattle.handler.proofs.translate.+emit_join+emit_label.Lts-emit_join as emit-join-lts
@@ -77,16 +77,7 @@ module _ (t : ℕ)
   head = l1 .before .before .before
 
   room : l2 .emit-label2 .result .position < 2 ^ 20
-  room =
-      let a = head .args in
-      omega (
-        arith,
-        head .pre .1,
-        l1 .emit-label .ensures .position,
-        l2 .emit-label2 .ensures .position,
-        label-length (a .depth) (now (a .bytes)) (a .mark .next),
-        label-length (a .depth) (now (a .bytes)) (l1 .emit-label .result .next),
-      )
+  room = omega (arith, head .pre .1, label-room _ _ _ (l1 .emit-label .ensures), label-room _ _ _ (l2 .emit-label2 .ensures))
 
 pub +emit-join+emit-label-spec : {M : Type 1} → statement M
 +emit-join+emit-label-spec =
@@ -101,11 +92,10 @@ pub +emit-join+emit-label-spec : {M : Type 1} → statement M
     (f, omega (arith, p .1)))
     -- emit-label-requires-2
     (λ c κs.
-    let e1 = c .before .before .emit-label .ensures in
     let s = c .before .before .before .before .before in
     let a = s .args in
     let f : 2 * a .depth < t = omega (arith, s .pre .0) in
-    (f, omega (arith, s .pre .1, e1 .position, label-length (a .depth) (now (a .bytes)) (a .mark .next))))
+    (f, omega (arith, s .pre .1, label-room _ _ _ (c .before .before .emit-label .ensures))))
     -- slice-aggregate-emit
     (λ c. search needs)
     -- emit-requires

@@ -5,8 +5,7 @@ use native.Mathlib.Omega.{arith}
 use denote.Ref.{now}
 use borrow.Author.Needs.{needs}
 use Rattle.handler.specs.Emit.{labelCode, answerCode}
-use Rattle.handler.proofs.Pieces.{label-length}
-use Rattle.handler.proofs.Emitting.{emits-answer}
+use Rattle.handler.proofs.Emitting.{emits-answer, label-room}
 use Rattle.handler.proofs.translate.emit_answer.Statement.{statement}
 use Rattle.handler.proofs.translate.emit_answer.Tie as tie
 
@@ -16,16 +15,7 @@ module _ (l2 : tie.After-emit-label2) where
   begin = l2 .before .before .before .before .before .before
 
   room : l2 .emit-label2 .result .position + 5 ≤ begin .args .mark .position + 2048
-  room =
-      let l1 = l2 .before .before .before in
-      let a = begin .args in
-      omega (
-        arith,
-        l1 .emit-label .ensures .position,
-        l2 .emit-label2 .ensures .position,
-        label-length 8 (now (a .bytes)) (a .mark .next),
-        label-length 8 (now (a .bytes)) (l1 .emit-label .result .next),
-      )
+  room = omega (arith, label-room _ _ _ (l2 .before .before .before .emit-label .ensures), label-room _ _ _ (l2 .emit-label2 .ensures))
 
 emit-label-requires : tie.Need-emit-label-requires
 emit-label-requires c κs = search needs
@@ -33,7 +23,7 @@ emit-label-requires c κs = search needs
 emit-label-requires-2 : tie.Need-emit-label-requires-2
 emit-label-requires-2 c κs =
     let s = c .before .before .before .before .before in
-    omega (arith, s .pre, c .before .before .emit-label .ensures .position, label-length 8 (now (s .args .bytes)) (s .args .mark .next))
+    omega (arith, s .pre, label-room _ _ _ (c .before .before .emit-label .ensures))
 
 slice-aggregate-emit : tie.Need-slice-aggregate-emit
 slice-aggregate-emit c = search needs

@@ -5,8 +5,7 @@ use native.Mathlib.Omega.{arith}
 use denote.Ref.{now}
 use borrow.Author.Needs.{needs}
 use Rattle.handler.specs.Emit.{labelCode}
-use Rattle.handler.proofs.Pieces.{label-length}
-use Rattle.handler.proofs.Emitting.{emits-flows}
+use Rattle.handler.proofs.Emitting.{emits-flows, label-room}
 use Rattle.handler.proofs.translate.emit_flows.Statement.{statement}
 use Rattle.handler.proofs.translate.emit_flows.Tie as tie
 
@@ -16,9 +15,7 @@ module _ (l1 : tie.After-emit-label) where
   begin = l1 .before .before .before .before
 
   room1 : l1 .emit-label .result .position + 1 ≤ begin .args .mark .position + 3 * 2 ^ begin .args .depth
-  room1 =
-      let a = begin .args in
-      omega (arith, l1 .emit-label .ensures .position, label-length (a .depth) (now (a .bytes)) (l1 .before .before .skip-label .result))
+  room1 = omega (arith, label-room _ _ _ (l1 .emit-label .ensures))
 
 -- and the first
 module _ (l2 : tie.After-emit-label2) where
@@ -26,9 +23,7 @@ module _ (l2 : tie.After-emit-label2) where
   l1 = l2 .before .before .before .before .before .before .before
 
   room2 : l2 .emit-label2 .result .position + 1 ≤ begin l1 .args .mark .position + 6 * 2 ^ begin l1 .args .depth
-  room2 =
-      let a = begin l1 .args in
-      omega (arith, room1 l1, l2 .emit-label2 .ensures .position, label-length (a .depth) (now (a .bytes)) (a .mark .next))
+  room2 = omega (arith, room1 l1, label-room _ _ _ (l2 .emit-label2 .ensures))
 
 skip-label-requires : tie.Need-skip-label-requires
 skip-label-requires c κs = search needs
@@ -42,8 +37,8 @@ slice-aggregate-emit c = search needs
 emit-requires : tie.Need-emit-requires
 emit-requires c κs = let l = c .before .before .before in (omega (arith, room1 l, begin l .pre), omega arith)
 
-add-t14 : tie.Need-add-t14
-add-t14 c = let l = c .before .before .before .before .before in record { fits = omega (arith, room1 l, begin l .pre) }
+add-behind : tie.Need-add-behind
+add-behind c = let l = c .before .before .before .before .before in record { fits = omega (arith, room1 l, begin l .pre) }
 
 emit-label-requires-2 : tie.Need-emit-label-requires-2
 emit-label-requires-2 c κs = let l = c .before .before .before .before .before .before in omega (arith, room1 l, begin l .pre)
@@ -54,8 +49,8 @@ slice-aggregate-emit-2 c = search needs
 emit-requires-2 : tie.Need-emit-requires-2
 emit-requires-2 c κs = let l = c .before .before .before in (omega (arith, room2 l, begin (l1 l) .pre), omega arith)
 
-add-t14-2 : tie.Need-add-t14-2
-add-t14-2 c = let l = c .before .before .before .before .before in record { fits = omega (arith, room2 l, begin (l1 l) .pre) }
+add-end : tie.Need-add-end
+add-end c = let l = c .before .before .before .before .before in record { fits = omega (arith, room2 l, begin (l1 l) .pre) }
 
 same-length : tie.Need-same-length
 same-length c = search needs
@@ -76,10 +71,10 @@ emit-flows-spec =
     emit-label-requires
     slice-aggregate-emit
     emit-requires
-    add-t14
+    add-behind
     emit-label-requires-2
     slice-aggregate-emit-2
     emit-requires-2
-    add-t14-2
+    add-end
     same-length
     returns)

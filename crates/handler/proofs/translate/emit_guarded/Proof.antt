@@ -7,8 +7,7 @@ use mir.Syntax.{w64}
 use mir.Facts.{toZ-pos}
 use borrow.Author.Needs.{needs}
 use Rattle.handler.specs.Emit.{conditionCode, answerCode, guardedCode}
-use Rattle.handler.proofs.Pieces.{condition-length, answer-length}
-use Rattle.handler.proofs.Emitting.{emits-guarded}
+use Rattle.handler.proofs.Emitting.{emits-guarded, condition-room, answer-room}
 use Rattle.handler.proofs.translate.emit_guarded.Statement.{statement}
 use Rattle.handler.proofs.translate.emit_guarded.Tie as tie
 
@@ -18,9 +17,7 @@ module _ (l1 : tie.After-emit-condition) where
   begin = l1 .before .before .before
 
   near : l1 .emit-condition .result .position + 4 ≤ begin .args .mark .position + 2048
-  near =
-      let a = begin .args in
-      omega (arith, l1 .emit-condition .ensures .position, condition-length 8 (now (a .bytes)) (a .mark .next))
+  near = omega (arith, condition-room _ _ _ (l1 .emit-condition .ensures))
 
 -- and the answer
 module _ (l2 : tie.After-emit-answer) where
@@ -28,8 +25,7 @@ module _ (l2 : tie.After-emit-answer) where
   l1 = l2 .before .before .before
 
   room : l2 .emit-answer .result .position ≤ begin l1 .args .mark .position + 4096
-  room =
-      omega (arith, near l1, l2 .emit-answer .ensures .position, answer-length (now (begin l1 .args .bytes)) (l1 .emit-condition .result .next))
+  room = omega (arith, near l1, answer-room _ _ (l2 .emit-answer .ensures))
 
   over : l2 .emit-answer .result .position - l1 .emit-condition .result .position < 2 ^ 63
   over = omega (arith, room, begin l1 .pre)
