@@ -1,5 +1,6 @@
 pub mod Asked
 pub mod Rules
+pub mod Seven
 pub mod Steps
 pub mod Faults
 pub mod Refines
@@ -8,3 +9,4 @@ pub mod Simulate
 pub mod Tags
 pub mod Whole
 pub mod Accepted
+pub mod Going
