@@ -8,8 +8,3 @@ pub mod Handler
 pub mod Shape
 pub mod Space
 pub mod Readings
-pub mod Putting
-pub mod Pieces
-pub mod Emitting
-pub mod Placing
-pub mod Translating

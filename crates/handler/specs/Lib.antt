@@ -4,5 +4,3 @@ pub mod Row
 pub mod Claim
 pub mod Space
 pub mod Reading
-pub mod Emit
-pub mod Translated
