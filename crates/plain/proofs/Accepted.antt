@@ -43,18 +43,18 @@ use Rattle.plain.specs.Loop.{done, loopOf}
 use Rattle.plain.specs.Plain.{Memory, memory, ended, begin, room, outcomeOf, plain}
 use Rattle.plain.proofs.Whole.{loop-run}
 
-never : {A : Type 0} → _≡_ {A = ℕ} 0 1 → A
+pub never : {A : Type 0} → _≡_ {A = ℕ} 0 1 → A
 never z = absurd (omega arith)
 
 -- ════════════════════════════════════════════════════════════════════════════════════════════
 -- Limits that are kept
 -- ════════════════════════════════════════════════════════════════════════════════════════════
 
-both-kept : (a b : Limit) → orElse a b ≡ Kept → (a ≡ Kept) × (b ≡ Kept)
+pub both-kept : (a b : Limit) → orElse a b ≡ Kept → (a ≡ Kept) × (b ≡ Kept)
 both-kept (Broken r) b e = never (cc)
 both-kept Kept b e = (refl, e)
 
-test-kept : (b : Bool) (r : Refusal) → keptIf b r ≡ Kept → b ≡ true
+pub test-kept : (b : Bool) (r : Refusal) → keptIf b r ≡ Kept → b ≡ true
 test-kept true r e = refl
 test-kept false r e = never (cc)
 
@@ -87,7 +87,7 @@ pub record Cells (values labels : List ℤ) : Type 0 where
   pub kept : labels ≡ cellLabels (cellsOf values labels)
   pub range : Each (AtomHas (λ n. Unit) InRange) (cellsOf values labels)
 
-cells-labels : (values labels : List ℤ) (i : ℕ) → length values ≡ length labels → labelsLimit i labels ≡ Kept → Cells values labels
+pub cells-labels : (values labels : List ℤ) (i : ℕ) → length values ≡ length labels → labelsLimit i labels ≡ Kept → Cells values labels
 unfolding cellsOf labelsLimit
 cells-labels [] [] i h e = record { kept = refl; range = tt }
 cells-labels [] (l ∷ labels) i h e = absurd (omega arith)
@@ -132,7 +132,7 @@ module _ (sheet : List ℕ) (m : Memory) (fuel : ℕ) where
         stack = leb-true _ _ (test-kept _ _ (p .1));
       }
 
-  start-fine : (d : Decoded) → decode sheet ≡ d → (cs : List Command)
+  pub start-fine : (d : Decoded) → decode sheet ≡ d → (cs : List Command)
       → startDecoded d (length (m .values)) (m .labels) (length (m .program)) (length (m .stack)) fuel ≡ accepted cs → Fine sheet m cs
   start-fine (refused r) g cs e = never (cc)
   start-fine (accepted ds) g cs e = go (startLimits (length ds) (length (m .values)) (m .labels) (length (m .program)) (length (m .stack)) fuel) refl e
@@ -156,7 +156,7 @@ module _ (sheet : List ℕ) (m : Memory) (fuel : ℕ) where
     unfolding decode
     few cs e = rw e at (decode-length commandLimit 0 sheet)
 
-    signed : (cs : List Command) → decode sheet ≡ accepted cs → ProgramHas (Signed 64) cs
+    pub signed : (cs : List Command) → decode sheet ≡ accepted cs → ProgramHas (Signed 64) cs
     unfolding decode
     signed cs e =
         let w : AllWritable cs = rw e at (decode-writable commandLimit 0 sheet bytes) in
@@ -172,10 +172,10 @@ module _ (sheet : List ℕ) (m : Memory) (fuel : ℕ) where
         branched w (negsuc i) n at = absurd at
 
     -- the lent words hold the start
-    abbrev lentWords : Lent
+    abbrev pub lentWords : Lent
     lentWords = lent (m .stack) (m .values) (m .labels) (m .numbers) (m .marks)
 
-    holds : (cs : List Command) → Fine sheet m cs → Represents (m .numbers) (m .marks) (begin m) started lentWords
+    pub holds : (cs : List Command) → Fine sheet m cs → Represents (m .numbers) (m .marks) (begin m) started lentWords
     unfolding laid stackWords
     holds cs f =
         record {
@@ -190,7 +190,7 @@ module _ (sheet : List ℕ) (m : Memory) (fuel : ℕ) where
           marks = refl;
         }
 
-    sound : (cs : List Command) → Fine sheet m cs → Sound (room m) (m .numbers) (m .marks) (begin m) lentWords
+    pub sound : (cs : List Command) → Fine sheet m cs → Sound (room m) (m .numbers) (m .marks) (begin m) lentWords
     sound cs f =
         record {
           space = f .stack;
@@ -200,7 +200,7 @@ module _ (sheet : List ℕ) (m : Memory) (fuel : ℕ) where
           roomMarks = min-le-right _ _;
         }
 
-    loaded : (cs : List Command) → Fine sheet m cs → loadSpace (decode sheet) (m .program) ≡ laid (programWords cs) (m .program)
+    pub loaded : (cs : List Command) → Fine sheet m cs → loadSpace (decode sheet) (m .program) ≡ laid (programWords cs) (m .program)
     loaded cs f = rw (f .decoded, le-leb (2 * length cs) (length (m .program)) (f .program))
 
     module _ (count : ℕ) (e : Checked.Accepted count ≡ checkAnswer answer) where

@@ -55,7 +55,7 @@ module _ (numbers₀ marks₀ : List ℤ) where
   held s m l x n r e = rw (machine-is r, ← e, ← r .values, ← r .labels, ← r .numbers, ← r .marks)
 
 -- the test for the end, on words and in the machine
-end-is : (z : ℤ) (n : ℕ) → isCount (naturalOf z) n ≡ atEnd n z
+pub end-is : (z : ℤ) (n : ℕ) → isCount (naturalOf z) n ≡ atEnd n z
 end-is (pos i) n = refl
 end-is (negsuc i) n = refl
 
@@ -73,11 +73,11 @@ module _ (cs : List Command) (program₀ : List ℤ) (room : ℕ) (numbers₀ ma
       ≡ ending numbers₀ marks₀ (run standard room cs fuel s) (stackAfter standard room cs fuel s (l .stack))
 
   module _ (s : State) (m : Machine) (l : Lent) (n : ℕ) (r : Represents numbers₀ marks₀ s m l) (e : s .steps ≡ n) where
-    end-yes : (other : ℕ) → atEnd (length cs) (s .pc .number) ≡ true → endOr m (length cs) other ≡ 0
+    pub end-yes : (other : ℕ) → atEnd (length cs) (s .pc .number) ≡ true → endOr m (length cs) other ≡ 0
     unfolding endOr
     end-yes other t = rw (r .pc, end-is (s .pc .number) (length cs), t)
 
-    end-no : (other : ℕ) → atEnd (length cs) (s .pc .number) ≡ false → endOr m (length cs) other ≡ other
+    pub end-no : (other : ℕ) → atEnd (length cs) (s .pc .number) ≡ false → endOr m (length cs) other ≡ other
     unfolding endOr
     end-no other t = rw (r .pc, end-is (s .pc .number) (length cs), t)
 

@@ -2,4 +2,10 @@ pub mod Asked
 pub mod Rules
 pub mod Steps
 pub mod Faults
+pub mod Ruled
+pub mod Simulate
+pub mod Tags
+pub mod Whole
+pub mod Accepted
 pub mod Refines
+pub mod Refusals

@@ -6,8 +6,8 @@ use lib.IntN.{ℤ, pos, negsuc}
 use lib.Dec.{eqb}
 use Rattle.label.specs.Word.{lowLabel}
 use Rattle.program.specs.Command.{codeOf}
-use Rattle.machine.specs.Rule.{Key, Verdict, denied, allowed}
-use Rattle.policy.specs.Row.{word, inputWord}
+use Rattle.machine.specs.Rule.{inputWord, Key, Verdict, denied, allowed}
+use Rattle.policy.specs.Row.{word}
 use Rattle.handler.specs.Kernel.{Outcome, returned, failed, Result}
 use Rattle.handler.specs.Kernel as Kernel
 

@@ -4,3 +4,4 @@ pub mod Claim
 pub mod Start
 pub mod Loop
 pub mod Tagged
+pub mod Refusals
