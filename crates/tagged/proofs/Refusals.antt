@@ -300,9 +300,9 @@ module _ (sheet : List ℕ) (m : Memory) (fuel : ℕ) (bytes : List ℕ) (row ha
             only = λ q e. let k = ap (λ (x : Ended). x .answer) e in never (cc);
             always = λ q h. absurd (none q h);
             otherwise = λ h.
-              let r : Result = result cs t row m fuel in
-              let ready = start-ready sheet bytes row m handler fuel (decode sheet) (readTable bytes) refl refl cs t s in
-              let agrees = ready-agrees sheet bytes row m handler fuel cs t ready size in
-              let most = run-steps (evaluate t) (room m) cs fuel (begin m) .most in
-              (summary r, r .tag .row, left cs t row m fuel r, _, refl, stop-number (r .machine .stop), rw (agrees .machine) (omega arith));
+                let r : Result = result cs t row m fuel in
+                let ready = start-ready sheet bytes row m handler fuel (decode sheet) (readTable bytes) refl refl cs t s in
+                let agrees = ready-agrees sheet bytes row m handler fuel cs t ready size in
+                let most = run-steps (evaluate t) (room m) cs fuel (begin m) .most in
+                (summary r, r .tag .row, left cs t row m fuel r, _, refl, stop-number (r .machine .stop), rw (agrees .machine) (omega arith));
           }
