@@ -1,7 +1,7 @@
 -- Demand 3 (specs/Claim.antt): a run that either engine accepts is the machine's run under the standard policy, from the same commands
 -- and the same cells, and its lines stand in the output space; so the machine's theorem speaks of it.
 -- Assumes nothing.
-use mathlib.Core.Path.{_≡_, refl, sym, ap, ap₂, _∙_, fun-ext}
+use mathlib.Core.Path.{_≡_, refl, sym, ap, ap₂, _∙_}
 use mathlib.Core.List.{List, [], _∷_, _++_}
 use Prim.Native.Nat.{ℕ}
 use lib.IntN.{ℤ}
@@ -11,16 +11,14 @@ use Rattle.program.specs.declared.Command.{Command}
 use Rattle.program.specs.Decode.{Decoded, decode}
 use Rattle.program.specs.Decode as Decode
 use Rattle.machine.specs.Atom.{Atom, Line}
-use Rattle.machine.specs.Rule.{Policy, standard}
+use Rattle.machine.specs.Rule.{standard}
 use Rattle.machine.specs.State.{start}
 use Rattle.machine.specs.Run.{run}
 use Rattle.machine.specs.Run as Run
 use Rattle.machine.proofs.Privacy.{standard-private}
 use Rattle.step.specs.Layout.{lineNumbers, lineLabels}
-use Rattle.policy.specs.Evaluate.{evaluate}
 use Rattle.policy.specs.Read.{readTable}
-use Rattle.policy.specs.Standard.{standardTable, standardBytes}
-use Rattle.policy.proofs.Standard.{evaluate-standard, standard-read}
+use Rattle.policy.specs.Standard.{standardBytes}
 use Rattle.plain.specs.declared.run.Ran as PlainRan
 use Rattle.plain.specs.declared.Answer.the-variants as PlainAnswer
 use Rattle.plain.specs.Start as PlainStart
@@ -34,7 +32,7 @@ use Rattle.tagged.specs.Run as TaggedRun
 use Rattle.tagged.specs.Tagged.{tagged}
 use Rattle.tagged.specs.Tagged as Tagged
 use Rattle.tagged.proofs.Accepted.{Ready, start-ready}
-use Rattle.tagged.proofs.Refines.{ready-agrees}
+use Rattle.tagged.proofs.Refines.{standard-agrees}
 use Rattle.privacy.specs.Claim.{linesOf, linesIn, cellsIn, Ran, onPlain, onTagged, Claim}
 
 -- lines that are laid into an output space stand in it
@@ -81,7 +79,9 @@ module _ (sheet : List ℕ) (m : Memory) (fuel : ℕ) where
   module _ (row : List ℤ) (size : length row ≡ 7) (handler : List ℤ)
       (ran : TaggedRan.Ran) (row′ : List ℤ) (after : Memory) (handler′ : List ℤ) where
     tagged-standard : (d : TaggedStart.Started)
-        → TaggedStart.startOf sheet standardBytes row (length (m .values)) (m .labels) (length (m .program)) (length (m .stack)) (length handler) fuel ≡ d
+        → TaggedStart.startOf sheet standardBytes row (length (m .values)) (m .labels) (length (m .program)) (length (m .stack))
+        (length handler) fuel
+        ≡ d
         → Tagged.outcomeOf d row m handler fuel ≡ Tagged.ended (TaggedAnswer.Stopped ran) row′ after handler′
         → Standard sheet (cellsIn m) (linesIn (ran .machine .lines) after)
     unfolding TaggedStart.startOf laid
@@ -90,12 +90,7 @@ module _ (sheet : List ℕ) (m : Memory) (fuel : ℕ) where
         let r : TaggedRun.Result = Tagged.result cs t row m fuel in
         let ready : Ready sheet standardBytes row m handler fuel cs t =
         start-ready sheet standardBytes row m handler fuel (decode sheet) (readTable standardBytes) refl refl cs t e in
-        let read = sym (ready .rules) ∙ standard-read in
-        let is : t ≡ standardTable = cc in
-        let policy : evaluate t ≡ standard = ap evaluate is ∙ fun-ext evaluate-standard in
-        let agrees = ready-agrees sheet standardBytes row m handler fuel cs t ready size in
-        let machine : r .machine ≡ run standard (room m) cs fuel (begin m) =
-        agrees .machine ∙ ap (λ (π : Policy). run π (room m) cs fuel (begin m)) policy in
+        let agrees = standard-agrees sheet row m handler fuel cs t ready size in
         let answer = ap (λ (x : Tagged.Ended). x .answer) f in
         let same : Tagged.summary r ≡ ran = cc in
         let left : Tagged.left cs t row m fuel r ≡ after = ap (λ (x : Tagged.Ended). x .memory) f in
@@ -107,7 +102,7 @@ module _ (sheet : List ℕ) (m : Memory) (fuel : ℕ) where
           are =
               ap₂ (λ (x : TaggedRan.Ran) (y : Memory). linesIn (x .machine .lines) y) (sym same) (sym left)
               ∙ lines-laid (r .machine .state .lines) _ _
-              ∙ ap (λ (x : Run.Result). x .state .lines) machine;
+              ∙ ap (λ (x : Run.Result). x .state .lines) (agrees .machine);
         }
 
 ran-standard : (sheet : List ℕ) {cells : List Atom} {lines : List Line} → Ran sheet cells lines → Standard sheet cells lines

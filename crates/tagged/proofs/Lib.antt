@@ -9,3 +9,4 @@ pub mod Whole
 pub mod Accepted
 pub mod Refines
 pub mod Refusals
+pub mod Both

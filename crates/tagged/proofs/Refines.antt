@@ -9,7 +9,7 @@ use lib.IntN.{ℤ}
 use lib.ListN.{length}
 use Rattle.word.specs.Lay.{laid}
 use Rattle.program.specs.declared.Command.{Command}
-use Rattle.machine.specs.Rule.{Key, Verdict, denied, allowed, standard}
+use Rattle.machine.specs.Rule.{Key, Verdict, denied, allowed, Policy, standard}
 use Rattle.machine.specs.State.{State, Stop, fuelSpent}
 use Rattle.machine.specs.Step.{Outcome, stopped, stepped, Request, halt, ask, request, decide, consult, execute}
 use Rattle.machine.specs.Run.{atEnd, step, run}
@@ -194,3 +194,12 @@ ready-agrees sheet bytes row m handler fuel cs t ready size =
     let range : LabelsInRange (begin m) =
     record { pc = (tt, omega arith); stack = tt; memory = ready .fine .cells .range; lines = tt } in
     tag-read bytes t (ready .rules) (room m) cs fuel (begin m) (tagOf row) range (record { size = size; accepted = ready .keptRow })
+
+-- under the standard table it is the run of the plain engine
+pub standard-agrees : (sheet : List ℕ) (row : List ℤ) (m : Memory) (handler : List ℤ) (fuel : ℕ) (cs : List Command) (t : Table)
+    → Ready sheet standardBytes row m handler fuel cs t → length row ≡ 7 → Agrees t standard (room m) cs fuel (begin m) (tagOf row)
+standard-agrees sheet row m handler fuel cs t ready size =
+    let read = sym (ready .rules) ∙ standard-read in
+    let is : t ≡ standardTable = cc in
+    subst (λ (π : Policy). Agrees t π (room m) cs fuel (begin m) (tagOf row)) (ap evaluate is ∙ fun-ext evaluate-standard)
+    (ready-agrees sheet standardBytes row m handler fuel cs t ready size)

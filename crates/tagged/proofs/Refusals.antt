@@ -12,12 +12,12 @@ use borrow.Author.Tests.{ltb-true, ltb-false, leb-true, leb-false, eqb-true, eqb
 use Rattle.label.specs.Word.{stored, storedIf}
 use Rattle.program.specs.declared.Command.{Command}
 use Rattle.program.specs.declared.Refusal.{Refusal}
-use Rattle.program.specs.Decode.{Decoded, refusal, decode}
+use Rattle.program.specs.Decode.{Decoded, decode}
 use Rattle.program.specs.Decode as Decode
 use Rattle.machine.specs.Rule.{standard}
 use Rattle.machine.specs.State.{Stop, end, fuelSpent, pcOutside, valueMissing, frameMissing, stopNumber}
 use Rattle.machine.specs.State.{addressOutside, denial, stackFull, outputFull}
-use Rattle.machine.specs.Run.{run}
+use Rattle.machine.specs.Run as Run
 use Rattle.machine.proofs.Run.{run-steps}
 use Rattle.policy.specs.Expression.{Table}
 use Rattle.policy.specs.Evaluate.{evaluate}
@@ -27,20 +27,17 @@ use Rattle.policy.specs.Row.{acceptedRow}
 use Rattle.handler.specs.Translate.{translate}
 use Rattle.plain.specs.declared.start.Limit.{Limit}
 use Rattle.plain.specs.declared.start.Limit.the-variants.{Broken, Kept}
-use Rattle.plain.specs.declared.run.Ran as PlainRan
-use Rattle.plain.specs.declared.Answer.the-variants as PlainAnswer
 use Rattle.plain.specs.Start.{keptIf, orElse, orLabel, cellsLimit, labelsLimit, spaceLimit, fuelLimit}
 use Rattle.plain.specs.Start as PlainStart
 use Rattle.plain.specs.Plain.{Memory, room, begin, plain}
 use Rattle.plain.specs.Plain as Plain
 use Rattle.plain.proofs.Accepted.{never, both-kept}
-use Rattle.tagged.specs.declared.run.Ran.{Ran}
-use Rattle.tagged.specs.declared.Answer.the-variants as Answer
 use Rattle.tagged.specs.Run.{Result}
-use Rattle.tagged.specs.Start.{rulesLimit, rowLimit, handlerLimit, startLimits, Started, refused, accepted, within, startDecoded, startOf}
-use Rattle.tagged.specs.Tagged.{Ended, ended, result, summary, left, outcomeOf, tagged}
-use Rattle.tagged.specs.Refusals.{Gives, broken, Nothing, _before_, first, next, Sheet, Cells, Outside, Labels, Rules, OfSheet, OfTable, Row, Space}
-use Rattle.tagged.specs.Refusals.{HandlerSpace, Allowance, PlainChecks, TaggedChecks, Demand, PlainClaim, TaggedClaim}
+use Rattle.tagged.specs.Start.{rulesLimit, rowLimit, handlerLimit, startLimits, Started, refused, accepted}
+use Rattle.tagged.specs.Start.{within, startDecoded, startOf}
+use Rattle.tagged.specs.Tagged.{Ended, result, summary, left, outcomeOf, tagged}
+use Rattle.tagged.specs.Refusals.{Gives, broken, Nothing, _before_, first, next, Sheet, Cells, Labels, Rules, OfSheet, OfTable, Row, Space}
+use Rattle.tagged.specs.Refusals.{HandlerSpace, Allowance, PlainChecks, TaggedChecks, PlainDemand, TaggedDemand, PlainClaim, TaggedClaim}
 use Rattle.tagged.proofs.Accepted.{Ready, start-ready}
 use Rattle.tagged.proofs.Refines.{ready-agrees}
 
@@ -185,33 +182,28 @@ module _ (sheet : List ℕ) (m : Memory) (fuel : ℕ) where
       go (Broken r) h = sheet-accepted sheet m cs e h
       go Kept h = sheet-accepted sheet m cs e h
 
-  pub plain-demand : PlainClaim sheet m fuel
-  unfolding plain PlainStart.startOf
-  plain-demand = go (PlainStart.startOf sheet (length (m .values)) (m .labels) (length (m .program)) (length (m .stack)) fuel)
-      (plain-decides (decode sheet) refl)
-    where
-      go : (d : Decoded) → Decides (PlainChecks sheet m fuel) (plainLimit d)
-          → Demand (PlainChecks sheet m fuel) (λ r. Plain.outcomeOf d m fuel ≡ Plain.ended (PlainAnswer.Refused r) m)
-          ((ran : PlainRan.Ran) × (after : Memory)
-          × (Plain.outcomeOf d m fuel ≡ Plain.ended (PlainAnswer.Stopped ran) after) × (ran .stop ≤ 8) × (ran .steps ≤ fuel))
-      go (Decode.refused r) (refuses given one) =
-          record {
-            only = λ q e. let k = ap (λ (x : Plain.Ended). x .answer) e in let same : r ≡ q = cc in rw same at given;
-            always = λ q h. rw (one q h);
-            otherwise = λ none. absurd (none r given);
-          }
-      go (Decode.accepted cs) (passes none) =
-          record {
-            only = λ q e. let k = ap (λ (x : Plain.Ended). x .answer) e in never (cc);
-            always = λ q h. absurd (none q h);
-            otherwise = λ h. (
-              Plain.summary (Plain.result cs m fuel),
-              Plain.left cs m fuel (Plain.result cs m fuel),
-              refl,
-              stop-number (Plain.result cs m fuel .stop),
-              (let h = run-steps standard (room m) cs fuel (begin m) .most in omega arith),
-            );
-          }
+  plain-outcome : (d : Decoded) → Decides (PlainChecks sheet m fuel) (plainLimit d) → PlainDemand sheet m fuel (Plain.outcomeOf d m fuel)
+  plain-outcome (Decode.refused r) (refuses given one) =
+      record {
+        only = λ q e. let k = ap (λ (x : Plain.Ended). x .answer) e in let same : r ≡ q = cc in rw same at given;
+        always = λ q h. rw (one q h);
+        otherwise = λ none. absurd (none r given);
+      }
+  plain-outcome (Decode.accepted cs) (passes none) =
+      let r : Run.Result = Plain.result cs m fuel in
+      let h = run-steps standard (room m) cs fuel (begin m) .most in
+      record {
+        only = λ q e. let k = ap (λ (x : Plain.Ended). x .answer) e in never (cc);
+        always = λ q h. absurd (none q h);
+        otherwise = λ _. (Plain.summary r, Plain.left cs m fuel r, refl, stop-number (r .stop), omega (arith, h));
+      }
+
+pub plain-demand : PlainClaim
+unfolding plain PlainStart.startOf
+plain-demand sheet m fuel =
+    plain-outcome sheet m fuel
+    (PlainStart.startOf sheet (length (m .values)) (m .labels) (length (m .program)) (length (m .stack)) fuel)
+    (plain-decides sheet m fuel (decode sheet) refl)
 
 -- ════════════════════════════════════════════════════════════════════════════════════════════
 -- The tag engine
@@ -272,37 +264,33 @@ module _ (sheet : List ℕ) (m : Memory) (fuel : ℕ) (bytes : List ℕ) (row ha
 
   tagged-decides : (d : Decoded) → decode sheet ≡ d
       → Decides (TaggedChecks sheet m fuel bytes row handler)
-      (taggedLimit (startDecoded (readTable bytes) row (length (m .values)) (m .labels) (length (m .program)) (length (m .stack)) (length handler) fuel d))
+      (taggedLimit
+      (startDecoded (readTable bytes) row (length (m .values)) (m .labels) (length (m .program)) (length (m .stack)) (length handler) fuel d))
   tagged-decides (Decode.refused r) e = sheet-refused sheet m e
   tagged-decides (Decode.accepted cs) e = within-decides cs e (readTable bytes) refl
 
-  pub tagged-demand : TaggedClaim sheet m fuel bytes row handler
-  unfolding tagged startOf
-  tagged-demand size = go start refl (tagged-decides (decode sheet) refl)
-    where
-      start : Started
-      start = startOf sheet bytes row (length (m .values)) (m .labels) (length (m .program)) (length (m .stack)) (length handler) fuel
+  tagged-outcome : (d : Started) → Decides (TaggedChecks sheet m fuel bytes row handler) (taggedLimit d)
+      → ((cs : List Command) (t : Table) → d ≡ accepted cs t → Ready sheet bytes row m handler fuel cs t) → length row ≡ 7
+      → TaggedDemand sheet m fuel bytes row handler (outcomeOf d row m handler fuel)
+  tagged-outcome (refused r) (refuses given one) ready size =
+      record {
+        only = λ q e. let k = ap (λ (x : Ended). x .answer) e in let same : r ≡ q = cc in rw same at given;
+        always = λ q h. rw (one q h);
+        otherwise = λ none. absurd (none r given);
+      }
+  tagged-outcome (accepted cs t) (passes none) ready size =
+      let r : Result = result cs t row m fuel in
+      let agrees = ready-agrees sheet bytes row m handler fuel cs t (ready cs t refl) size in
+      let h = run-steps (evaluate t) (room m) cs fuel (begin m) .most in
+      record {
+        only = λ q e. let k = ap (λ (x : Ended). x .answer) e in never (cc);
+        always = λ q h. absurd (none q h);
+        otherwise = λ _.
+            (summary r, r .tag .row, left cs t row m fuel r, _, refl, stop-number (r .machine .stop), rw (agrees .machine) (omega (arith, h)));
+      }
 
-      go : (d : Started) → start ≡ d → Decides (TaggedChecks sheet m fuel bytes row handler) (taggedLimit d)
-          → Demand (TaggedChecks sheet m fuel bytes row handler)
-          (λ r. outcomeOf d row m handler fuel ≡ ended (Answer.Refused r) row m handler)
-          ((ran : Ran) × (row′ : List ℤ) × (after : Memory) × (handler′ : List ℤ)
-          × (outcomeOf d row m handler fuel ≡ ended (Answer.Stopped ran) row′ after handler′)
-          × (ran .stop ≤ 8) × (ran .steps ≤ fuel))
-      go (refused r) s (refuses given one) =
-          record {
-            only = λ q e. let k = ap (λ (x : Ended). x .answer) e in let same : r ≡ q = cc in rw same at given;
-            always = λ q h. rw (one q h);
-            otherwise = λ none. absurd (none r given);
-          }
-      go (accepted cs t) s (passes none) =
-          record {
-            only = λ q e. let k = ap (λ (x : Ended). x .answer) e in never (cc);
-            always = λ q h. absurd (none q h);
-            otherwise = λ h.
-                let r : Result = result cs t row m fuel in
-                let ready = start-ready sheet bytes row m handler fuel (decode sheet) (readTable bytes) refl refl cs t s in
-                let agrees = ready-agrees sheet bytes row m handler fuel cs t ready size in
-                let most = run-steps (evaluate t) (room m) cs fuel (begin m) .most in
-                (summary r, r .tag .row, left cs t row m fuel r, _, refl, stop-number (r .machine .stop), rw (agrees .machine) (omega arith));
-          }
+pub tagged-demand : TaggedClaim
+unfolding tagged startOf
+tagged-demand sheet m fuel bytes row handler size =
+    tagged-outcome sheet m fuel bytes row handler _ (tagged-decides sheet m fuel bytes row handler (decode sheet) refl)
+    (start-ready sheet bytes row m handler fuel (decode sheet) (readTable bytes) refl refl) size

@@ -5,3 +5,4 @@ pub mod Start
 pub mod Loop
 pub mod Tagged
 pub mod Refusals
+pub mod Both

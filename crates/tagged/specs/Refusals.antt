@@ -23,7 +23,7 @@ use Rattle.plain.specs.Plain.{Memory, plain}
 use Rattle.plain.specs.Plain as Plain
 use Rattle.tagged.specs.declared.run.Ran.{Ran}
 use Rattle.tagged.specs.declared.Answer.the-variants as Answer
-use Rattle.tagged.specs.Tagged.{ended, tagged}
+use Rattle.tagged.specs.Tagged.{Ended, ended, tagged}
 
 -- ════════════════════════════════════════════════════════════════════════════════════════════
 -- Checks
@@ -103,7 +103,7 @@ module _ (sheet : List ℕ) (m : Memory) (fuel : ℕ) where
 -- Demand 1
 -- ════════════════════════════════════════════════════════════════════════════════════════════
 
--- refused exactly as the checks say, and otherwise stopped
+-- of what an engine leaves: refused exactly as the checks say, and otherwise stopped
 pub record Demand (checks refused : Refusal → Type 0) (stopped : Type 0) : Type 0 where
   pub only : (r : Refusal) → refused r → checks r
   pub always : (r : Refusal) → checks r → refused r
@@ -111,23 +111,29 @@ pub record Demand (checks refused : Refusal → Type 0) (stopped : Type 0) : Typ
 
 module _ (sheet : List ℕ) (m : Memory) (fuel : ℕ) where
   -- one of the nine stops, within the allowance
-  abbrev pub PlainStops : Type 0
-  PlainStops =
+  abbrev pub PlainStopped : Plain.Ended → Type 0
+  PlainStopped x =
       (ran : PlainRan.Ran) × (after : Memory)
-      × (plain sheet m fuel ≡ Plain.ended (PlainAnswer.Stopped ran) after) × (ran .stop ≤ 8) × (ran .steps ≤ fuel)
+      × (x ≡ Plain.ended (PlainAnswer.Stopped ran) after) × (ran .stop ≤ 8) × (ran .steps ≤ fuel)
 
-  abbrev pub PlainClaim : Type 0
-  PlainClaim = Demand (PlainChecks sheet m fuel) (λ r. plain sheet m fuel ≡ Plain.ended (PlainAnswer.Refused r) m) PlainStops
+  abbrev pub PlainDemand : Plain.Ended → Type 0
+  PlainDemand x = Demand (PlainChecks sheet m fuel) (λ r. x ≡ Plain.ended (PlainAnswer.Refused r) m) (PlainStopped x)
 
-  module _ (bytes : List ℕ) (row : List ℤ) (handler : List ℤ) where
-    abbrev pub TaggedStops : Type 0
-    TaggedStops =
+  module _ (bytes : List ℕ) (row handler : List ℤ) where
+    abbrev pub TaggedStopped : Ended → Type 0
+    TaggedStopped x =
         (ran : Ran) × (row′ : List ℤ) × (after : Memory) × (handler′ : List ℤ)
-        × (tagged sheet bytes row m handler fuel ≡ ended (Answer.Stopped ran) row′ after handler′)
-        × (ran .stop ≤ 8) × (ran .steps ≤ fuel)
+        × (x ≡ ended (Answer.Stopped ran) row′ after handler′) × (ran .stop ≤ 8) × (ran .steps ≤ fuel)
 
-    abbrev pub TaggedClaim : Type 0
-    TaggedClaim =
-        length row ≡ 7
-        → Demand (TaggedChecks sheet m fuel bytes row handler)
-        (λ r. tagged sheet bytes row m handler fuel ≡ ended (Answer.Refused r) row m handler) TaggedStops
+    abbrev pub TaggedDemand : Ended → Type 0
+    TaggedDemand x =
+        Demand (TaggedChecks sheet m fuel bytes row handler) (λ r. x ≡ ended (Answer.Refused r) row m handler) (TaggedStopped x)
+
+-- for all arguments, the rule memory having seven words
+abbrev pub PlainClaim : Type 0
+PlainClaim = (sheet : List ℕ) (m : Memory) (fuel : ℕ) → PlainDemand sheet m fuel (plain sheet m fuel)
+
+abbrev pub TaggedClaim : Type 0
+TaggedClaim =
+    (sheet : List ℕ) (m : Memory) (fuel : ℕ) (bytes : List ℕ) (row handler : List ℤ) → length row ≡ 7
+    → TaggedDemand sheet m fuel bytes row handler (tagged sheet bytes row m handler fuel)
