@@ -39,8 +39,7 @@ module _ (sheet : List ℕ) (m : Memory) (fuel : ℕ) where
   stops-one : (p q : PlainRan.Ran) (after after′ : Memory) → Stops p after → Stops q after′ → (q ≡ p) × (after′ ≡ after)
   stops-one p q after after′ s t =
       let read = sym (t .decoded) ∙ s .decoded in
-      let same : t .commands ≡ s .commands = cc in
-      (
+      let same : t .commands ≡ s .commands = cc in (
         t .summary-is ∙ ap (λ (cs : List Command). Plain.summary (Plain.result cs m fuel)) same ∙ sym (s .summary-is),
         t .left-is ∙ ap (λ (cs : List Command). Plain.left cs m fuel (Plain.result cs m fuel)) same ∙ sym (s .left-is),
       )
@@ -82,8 +81,7 @@ module _ (sheet : List ℕ) (m : Memory) (fuel : ℕ) where
         let ready = start-ready sheet standardBytes row m handler fuel (decode sheet) (readTable standardBytes) refl refl cs t e in
         let agrees = standard-agrees sheet row m handler fuel cs t ready size in
         let g = ap (λ (x : Ended). x .answer) f in
-        let is : r ≡ summary (result cs t row m fuel) = cc in
-        (
+        let is : r ≡ summary (result cs t row m fuel) = cc in (
           Plain.summary (Plain.result cs m fuel),
           rw is (rw (agrees .machine) (record { machine = refl; stop = refl; steps = refl })),
           record {
