@@ -15,8 +15,11 @@ use Rattle.machine.specs.State.{start}
 use Rattle.machine.specs.Run.{run}
 use Rattle.machine.proofs.Privacy.{standard-private}
 use Rattle.step.specs.Layout.{lineNumbers, lineLabels}
+use Rattle.policy.specs.Standard.{standardBytes}
 use Rattle.plain.specs.declared.run.Ran as PlainRan
 use Rattle.plain.specs.Plain.{Memory, room, result}
+use Rattle.tagged.specs.Refusals.{Nothing, PlainChecks, TaggedChecks}
+use Rattle.tagged.proofs.Refusals.{plain-demand, tagged-demand}
 use Rattle.tagged.proofs.Both.{Stops, plain-stops, tagged-stops}
 use Rattle.privacy.specs.Claim.{linesOf, linesIn, cellsIn, Ran, onPlain, onTagged, Claim}
 
@@ -64,3 +67,19 @@ runs-private S sheet cells₁ cells₂ lines₁ lines₂ ran₁ ran₂ alike =
     let read = sym (r₂ .decoded) ∙ r₁ .decoded in
     let same : r₂ .commands ≡ r₁ .commands = cc in
     rw (r₁ .are, r₂ .are, same) (standard-private (r₁ .commands) S cells₁ cells₂ alike (r₁ .room) (r₂ .room) (r₁ .fuel) (r₂ .fuel))
+
+-- ════════════════════════════════════════════════════════════════════════════════════════════
+-- What the claim covers: there is such a run wherever no limit is broken (demand 1)
+-- ════════════════════════════════════════════════════════════════════════════════════════════
+
+module _ (sheet : List ℕ) (m : Memory) (fuel : ℕ) where
+  pub plain-ran : Nothing (PlainChecks sheet m fuel) → (lines : List Line) × Ran sheet (cellsIn m) lines
+  plain-ran kept =
+      let (ran, after, e, stop, steps) = plain-demand sheet m fuel .otherwise kept in
+      (linesIn (ran .machine .lines) after, onPlain m fuel ran after e)
+
+  pub tagged-ran : (row handler : List ℤ) → length row ≡ 7 → Nothing (TaggedChecks sheet m fuel standardBytes row handler)
+      → (lines : List Line) × Ran sheet (cellsIn m) lines
+  tagged-ran row handler size kept =
+      let (ran, row′, after, handler′, e, stop, steps) = tagged-demand sheet m fuel standardBytes row handler size .otherwise kept in
+      (linesIn (ran .machine .lines) after, onTagged row size m handler fuel ran row′ after handler′ e)
