@@ -1,4 +1,4 @@
--- The commands of this crate are the two phases of a command with the standard rule between them, for all words.
+-- The commands in code are the two phases of a command with the standard rule between them, for all words.
 -- Assumes nothing.
 use mathlib.Core.Path.{_≡_, refl}
 use mathlib.Core.Bool.{Bool, true, false}
@@ -26,7 +26,7 @@ use Rattle.step.specs.Phase.{twoInputs, oneInput, callInputs, frameInputs, load
 use Rattle.step.specs.Phase.{arithEffect, outputEffect, pushEffect, loadEffect, storeEffect, callEffect, effectOf}
 use Rattle.step.proofs.Link.Looks.{found, effect}
 use Rattle.step.proofs.Link.Phases.{OnWords, stop-goes, decided, phased}
-use Rattle.plain.specs.Command.{loadCell, storeCell, arithOf, popOf, outputOf, pushOf, loadOf, storeOf, jumpOf, bnzOf, callOf, retOf}
+use Rattle.commands.specs.Command.{loadCell, storeCell, arithOf, popOf, outputOf, pushOf, loadOf, storeOf, jumpOf, bnzOf, callOf, retOf}
 use Rattle.plain.specs.Step.{stepOf}
 
 -- the standard rule, on the words of the inputs

@@ -1,4 +1,3 @@
-pub mod Zero
 pub mod Limits
 pub mod Going
 pub mod Fused

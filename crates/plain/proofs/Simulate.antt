@@ -1,4 +1,4 @@
--- A command of this crate simulates the machine's command under the standard rules, and leaves every lent run as long as it was.
+-- A command in code simulates the machine's command under the standard rules, and leaves every lent run as long as it was.
 -- Assumes nothing.
 use mathlib.Core.Path.{_≡_, refl}
 use mathlib.Core.List.{List}

@@ -1,4 +1,3 @@
-pub mod Command
 pub mod Step
 pub mod Loop
 pub mod Start

@@ -5,7 +5,7 @@ use lib.Dec.{ltb, eqb}
 use Rattle.step.specs.declared.Machine.{Machine}
 use Rattle.step.specs.Words.{choose}
 use Rattle.step.specs.Lent.{Lent, After, after, withStack, withLines, withCells}
-use Rattle.plain.specs.Command.{arithOf, popOf, outputOf, pushOf, loadOf, storeOf, jumpOf, bnzOf, callOf, retOf}
+use Rattle.commands.specs.Command.{arithOf, popOf, outputOf, pushOf, loadOf, storeOf, jumpOf, bnzOf, callOf, retOf}
 
 unfoldable pub stepOf : ℕ → ℕ → ℤ → Machine → Lent → After
 stepOf room code operand m l =

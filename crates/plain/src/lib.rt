@@ -1,5 +1,4 @@
 // The plain engine: document 01's machine under the standard rules, on lent memory. Read specs/Plain.antt first.
-mod command;
 pub mod run;
 pub mod start;
 

@@ -1,5 +1,4 @@
 // One loop over the commands.
-use crate::command;
 use step::Machine;
 use step::Stepped;
 use word::number::Index;
@@ -35,32 +34,32 @@ fn act(
 {
     if code < 6 {
         if code < 3 {
-            return command::arith(code, m, stack);
+            return commands::arith(code, m, stack);
         }
         if code < 5 {
             if code == 3 {
-                return command::pop(m, stack);
+                return commands::pop(m, stack);
             }
-            return command::output(room, m, stack, numbers, marks);
+            return commands::output(room, m, stack, numbers, marks);
         }
-        return command::push(operand, m, stack);
+        return commands::push(operand, m, stack);
     }
     if code < 8 {
         if code == 6 {
-            return command::load(m, stack, values, labels);
+            return commands::load(m, stack, values, labels);
         }
-        return command::store(m, stack, values, labels);
+        return commands::store(m, stack, values, labels);
     }
     if code < 10 {
         if code == 8 {
-            return command::jump(m, stack);
+            return commands::jump(m, stack);
         }
-        return command::bnz(operand, m, stack);
+        return commands::bnz(operand, m, stack);
     }
     if code == 10 {
-        return command::call(m, stack);
+        return commands::call(m, stack);
     }
-    command::ret(m, stack)
+    commands::ret(m, stack)
 }
 
 // Stop 0 where the place is the number of commands, else another.
