@@ -15,8 +15,8 @@ use Rattle.step.specs.Words.{choose}
 use Rattle.step.specs.Lent.{outcome, Lent, After, after}
 use Rattle.step.specs.Phase.{inputsOf, effectOf}
 use Rattle.handler.specs.Kernel.{Result}
+use Rattle.tagging.specs.Consult.{Tag, tag, Consulted, consult}
 use Rattle.tagged.specs.declared.consult.Ruling as Code
-use Rattle.tagged.specs.Consult.{Tag, tag, Consulted, consult}
 use Rattle.tagged.specs.Ruling.{rulingOf}
 use Rattle.tagged.specs.Loop.{Acted, acted, unasked, added, five, actRuled, actAsked, actFound, actOf}
 

@@ -20,7 +20,7 @@ use Rattle.step.specs.Phase.{inputsOf}
 use Rattle.handler.specs.Kernel.{Result}
 use Rattle.plain.specs.Loop.{endOr}
 use Rattle.plain.proofs.Going.{SameLengths}
-use Rattle.tagged.specs.Consult.{Tag, tag, Five, Consulted, matches, consultIf, consult, counted}
+use Rattle.tagging.specs.Consult.{Tag, tag, Five, Consulted, matches, consultIf, consult, counted}
 use Rattle.tagged.specs.Loop.{Acted, unasked, added, actFound, actOf, done, atPlace, loopOf}
 
 -- ════════════════════════════════════════════════════════════════════════════════════════════

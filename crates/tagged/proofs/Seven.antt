@@ -14,9 +14,9 @@ use mir.Val.{SFits, toZ, ofZ}
 use Rattle.word.proofs.Signed.{back}
 use Rattle.handler.specs.Kernel.{Outcome, returned, failed, Result}
 use Rattle.handler.specs.Kernel as Kernel
-use Rattle.tagged.specs.Consult.{sameWord, Five, words, matches, missed, Consulted, faulted, consultIf, consult}
+use Rattle.tagging.specs.Consult.{sameWord, Five, words, matches, missed, Consulted, faulted, consultIf, consult}
+use Rattle.tagging.proofs.Rules.{words-all, same-word, word-same}
 use Rattle.tagged.specs.Ruling.{ruling, ruledAgain}
-use Rattle.tagged.proofs.Rules.{words-all, same-word, word-same}
 
 -- words are compared by their bits
 pub same-test : (a b : ℤ) → SFits w64 a → SFits w64 b → eqb (ofZ w64 a) (ofZ w64 b) ≡ sameWord a b

@@ -30,8 +30,8 @@ use Rattle.step.proofs.Link.Length.{Kept}
 use Rattle.step.proofs.Link.Place.{code-residue}
 use Rattle.step.proofs.Link.Phases.{OnWords, Rules, stop-goes, decided, phased, phased-lengths, phases-at, execute-simulates}
 use Rattle.handler.specs.Kernel.{Instruction, Result, handle}
-use Rattle.tagged.specs.Consult.{Tag, consult, counted}
-use Rattle.tagged.specs.Run.{rules, tagRequest, tagAt, tagStep}
+use Rattle.tagging.specs.Consult.{Tag, consult, counted}
+use Rattle.tagging.specs.Run.{rules, tagRequest, tagAt, tagStep}
 use Rattle.tagged.specs.Loop.{Acted, unasked, acted, five, actRuled, actAsked, actFound, actOf}
 
 -- ════════════════════════════════════════════════════════════════════════════════════════════

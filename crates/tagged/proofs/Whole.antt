@@ -34,14 +34,14 @@ use Rattle.plain.specs.Loop.{endOr}
 use Rattle.plain.proofs.Whole.{end-yes, end-no}
 use Rattle.handler.specs.Kernel.{Instruction, handle}
 use Rattle.handler.specs.Kernel as Kernel
-use Rattle.tagged.specs.Consult.{Tag, Consulted, counted}
-use Rattle.tagged.specs.Run.{Result, rules, tagStep, result, tagRun, tagStack}
+use Rattle.tagging.specs.Consult.{Tag, Consulted, counted}
+use Rattle.tagging.specs.Run.{Result, rules, tagStep, result, tagRun, tagStack}
+use Rattle.tagging.proofs.Ruled.{rules-range}
+use Rattle.tagging.proofs.Tags.{tagRun-end, tagRun-spent, tagRun-stopped, tagRun-stepped}
+use Rattle.tagging.proofs.Tags.{tagStack-end, tagStack-stopped, tagStack-stepped}
 use Rattle.tagged.specs.Loop.{Done, done, acted, actOf, onward, loopOf}
 use Rattle.tagged.specs.Tagged.{summary}
-use Rattle.tagged.proofs.Ruled.{rules-range}
 use Rattle.tagged.proofs.Simulate.{act-lengths, act-simulates, act-tag, tag-at, tag-none}
-use Rattle.tagged.proofs.Tags.{tagRun-end, tagRun-spent, tagRun-stopped, tagRun-stepped}
-use Rattle.tagged.proofs.Tags.{tagStack-end, tagStack-stopped, tagStack-stepped}
 
 -- ════════════════════════════════════════════════════════════════════════════════════════════
 -- What a run leaves

@@ -17,8 +17,8 @@ use Rattle.step.specs.Lent.{outcome, Lent, After, after}
 use Rattle.step.specs.Phase.{inputsOf, effectOf}
 use Rattle.handler.specs.Kernel.{Result}
 use Rattle.plain.specs.Loop.{endOr}
+use Rattle.tagging.specs.Consult.{Tag, tag, Five, words, Consulted, consult, counted}
 use Rattle.tagged.specs.declared.run.Ran.{Ran}
-use Rattle.tagged.specs.Consult.{Tag, tag, Five, words, Consulted, consult, counted}
 
 -- ════════════════════════════════════════════════════════════════════════════════════════════
 -- One command

@@ -4,8 +4,8 @@ use mathlib.Core.Bool.{Bool, true, false}
 use mathlib.Core.List.{List}
 use lib.IntN.{ℤ}
 use Rattle.machine.specs.Rule.{allowedIf}
+use Rattle.tagging.specs.Consult.{Five, matches, Consulted, ruledIf}
 use Rattle.tagged.specs.declared.consult.Ruling as Code
-use Rattle.tagged.specs.Consult.{Five, matches, Consulted, ruledIf}
 
 abbrev pub rulingOf : Code.Ruling → Consulted
 rulingOf r =

@@ -13,11 +13,11 @@ use Rattle.policy.specs.Expression.{Table}
 use Rattle.handler.specs.Space.{kernelWords}
 use Rattle.handler.specs.Translate.{translate}
 use Rattle.plain.specs.Plain.{Memory, memory, room, begin}
+use Rattle.tagging.specs.Consult.{Tag, tag}
+use Rattle.tagging.specs.Run.{Result, tagRun, tagStack}
 use Rattle.tagged.specs.declared.run.Ran.{Ran}
 use Rattle.tagged.specs.declared.Answer.{Answer}
 use Rattle.tagged.specs.declared.Answer.the-variants as Answer
-use Rattle.tagged.specs.Consult.{Tag, tag}
-use Rattle.tagged.specs.Run.{Result, tagRun, tagStack}
 use Rattle.tagged.specs.Start.{Started, refused, accepted, startOf}
 
 -- the answer, the rule memory, the lent runs that both engines have, and the handler space

@@ -1,4 +1,4 @@
-// The rule memory in front of the handler. Read specs/Consult.antt first.
+// The rule memory in front of the handler. Read tagging/specs/Consult.antt first.
 use kernel::Outcome;
 use kernel::handle;
 use label::Label;
@@ -8,7 +8,7 @@ ghost use mathlib.Core.Bool.{true, false};
 ghost use lib.IntN.{pos};
 ghost use lib.ListN.{getD, length};
 ghost use Rattle.handler.specs.Space.{handleSpace};
-ghost use Rattle.tagged.specs.Consult.{sameWord, words, matches, missed, consult};
+ghost use Rattle.tagging.specs.Consult.{sameWord, words, matches, missed, consult};
 ghost use Rattle.tagged.specs.Ruling.{rulingOf, ruling, ruledAgain};
 
 // How a command was ruled on: whether it is allowed, the new place label and the result label; the rule memory; a fault or none, and

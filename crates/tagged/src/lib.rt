@@ -1,5 +1,5 @@
-// The tag engine: document 01's machine with its rules as data. Read in specs/: Consult, Run, Start; then Tagged, and Claim for what
-// is shown of it.
+// The tag engine: document 01's machine with its rules as data. Read in tagging/specs/: Consult, Run; then in specs/: Start, Tagged.
+// What is shown of it is said in tagging/specs/Claim.antt and in demands.
 mod consult;
 mod run;
 mod start;

@@ -10,7 +10,7 @@ ghost use Prim.Native.Nat.{_≤_};
 ghost use Rattle.step.specs.Words.{started};
 ghost use Rattle.step.specs.Lent.{outcome, after, lent};
 ghost use Rattle.handler.specs.Space.{handleSpace};
-ghost use Rattle.tagged.specs.Consult.{tag};
+ghost use Rattle.tagging.specs.Consult.{tag};
 ghost use Rattle.tagged.specs.Loop.{added, actOf, ranWith, doneOf, loopOf};
 
 // Where a run ended: the machine record, the stop, the steps, the commands that did not match and the kernel steps.

@@ -1,7 +1,7 @@
 use borrow.Author.Needs.{needs}
 use mathlib.Core.Path.{sym, ap, _∙_}
 use mathlib.Core.Bool.{Bool}
-use Rattle.tagged.specs.Consult.{Five, matches}
+use Rattle.tagging.specs.Consult.{Five, matches}
 use Rattle.tagged.specs.Ruling.{ruling}
 use Rattle.tagged.proofs.Seven.{five-back}
 use Rattle.tagged.proofs.consult.again.Statement.{statement}

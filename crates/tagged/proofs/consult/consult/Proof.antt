@@ -3,7 +3,7 @@ use mathlib.Core.Path.{sym, ap, _∙_}
 use denote.Ref.{now}
 use Rattle.handler.specs.Space.{handleSpace}
 use Rattle.kernel.specs.Words.{outcomeOf, resultOf}
-use Rattle.tagged.specs.Consult.{Five, matches, missed}
+use Rattle.tagging.specs.Consult.{Five, matches, missed}
 use Rattle.tagged.specs.Ruling.{ruledAgain}
 use Rattle.tagged.proofs.Seven.{five-back, consult-hit, consult-missed, again-faulted, denied-faulted, failed-faulted}
 use Rattle.tagged.proofs.consult.consult.Statement.{statement}

@@ -1,6 +1,6 @@
 use borrow.Author.Needs.{needs}
 use mathlib.Core.Path.{ap, _∙_}
-use Rattle.tagged.specs.Consult.{sameWord}
+use Rattle.tagging.specs.Consult.{sameWord}
 use Rattle.tagged.proofs.Seven.{same-test}
 use Rattle.tagged.proofs.consult.holds.Statement.{statement}
 use Rattle.tagged.proofs.consult.holds.Tie as tie

@@ -3,7 +3,7 @@ use mathlib.Core.Path.{sym, ap, _∙_}
 use lib.IntN.{pos}
 use lib.ListN.{getD}
 use Rattle.word.proofs.Signed.{back}
-use Rattle.tagged.specs.Consult.{sameWord, matches}
+use Rattle.tagging.specs.Consult.{sameWord, matches}
 use Rattle.tagged.proofs.consult.matching.Statement.{statement}
 use Rattle.tagged.proofs.consult.matching.Tie as tie
 

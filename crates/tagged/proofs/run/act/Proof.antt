@@ -7,7 +7,7 @@ use Rattle.word.proofs.Signed.{back}
 use Rattle.step.specs.Lent.{lent}
 use Rattle.step.specs.Phase.{inputsOf, effectOf}
 use Rattle.handler.specs.Space.{handleSpace}
-use Rattle.tagged.specs.Consult.{words, consult}
+use Rattle.tagging.specs.Consult.{words, consult}
 use Rattle.tagged.proofs.Seven.{five-back}
 use Rattle.tagged.proofs.Acting.{act-halted, act-allowed, act-denied}
 use Rattle.tagged.proofs.run.act.Statement.{statement}

@@ -19,7 +19,7 @@ use Rattle.handler.specs.Kernel.{Result}
 use Rattle.handler.specs.Space.{handleSpace}
 use Rattle.handler.proofs.Effect.{handleSpace-steps}
 use Rattle.plain.proofs.Going.{SameLengths, index-below}
-use Rattle.tagged.specs.Consult.{Tag, tag}
+use Rattle.tagging.specs.Consult.{Tag, tag}
 use Rattle.tagged.specs.Loop.{Acted, added, actOf, ranWith, doneOf}
 use Rattle.tagged.proofs.Going.{Few, act-few, Going, going-start, going-end, going-outside, going-stopped, going-on}
 use Rattle.tagged.proofs.run.go.Statement.{statement}

@@ -13,8 +13,8 @@ use Rattle.machine.specs.Step.{stopped, stepped}
 use Rattle.machine.specs.Run.{atEnd, step}
 use Rattle.step.specs.Layout.{stackWords}
 use Rattle.handler.specs.Kernel.{Instruction}
-use Rattle.tagged.specs.Consult.{Tag}
-use Rattle.tagged.specs.Run.{rules, tagStep, result, tagRun, tagStack}
+use Rattle.tagging.specs.Consult.{Tag}
+use Rattle.tagging.specs.Run.{rules, tagStep, result, tagRun, tagStack}
 
 module _ (handler : List Instruction) (room : ℕ) (cs : List Command) (s : State) (t : Tag) where
   -- at the end

@@ -12,8 +12,8 @@ use Rattle.machine.specs.Rule.{Verdict, denied, allowed}
 use Rattle.machine.specs.Holds.{Answers}
 use Rattle.handler.specs.Kernel.{Instruction, Outcome, returned, failed, Result, handle}
 use Rattle.handler.specs.Kernel as Kernel
-use Rattle.tagged.specs.Consult.{Tag, Five, fiveOf, matches, missed, ruledIf, again, consultIf, consult}
-use Rattle.tagged.specs.Run.{rules}
+use Rattle.tagging.specs.Consult.{Tag, Five, fiveOf, matches, missed, ruledIf, again, consultIf, consult}
+use Rattle.tagging.specs.Run.{rules}
 
 low-range : (z : ℤ) → InRange (lowLabel z)
 unfolding lowLabel

@@ -1,6 +1,6 @@
 -- Demand 2 between the engines, of what their contracts say (`plain`, `tagged`): from a start that both accept, the tag engine under the
--- standard table does what the plain engine does. This file states it; proofs/Both.antt shows it. Of every other table specs/Claim.antt
--- speaks.
+-- standard table does what the plain engine does. This file states it; proofs/Both.antt shows it. Of every other table
+-- tagging/specs/Claim.antt speaks.
 use Prim.Native.Nat.{ℕ}
 use mathlib.Core.Path.{_≡_}
 use mathlib.Core.List.{List}

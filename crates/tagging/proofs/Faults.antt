@@ -16,10 +16,10 @@ use Rattle.machine.proofs.Step.{Gives, gives-stepped}
 use Rattle.step.proofs.Link.Phases.{keyOf}
 use Rattle.handler.specs.Kernel.{Instruction, handle}
 use Rattle.handler.proofs.Effect.{handle-steps}
-use Rattle.tagged.specs.Consult.{Tag, Five, fiveOf, matches, missed, consultIf, consult, counted}
-use Rattle.tagged.specs.Run.{rules, tagRequest, tagStep, tagRun}
-use Rattle.tagged.specs.Claim.{Adds}
-use Rattle.tagged.proofs.Steps.{step-both, tag-induction}
+use Rattle.tagging.specs.Consult.{Tag, Five, fiveOf, matches, missed, consultIf, consult, counted}
+use Rattle.tagging.specs.Run.{rules, tagRequest, tagStep, tagRun}
+use Rattle.tagging.specs.Claim.{Adds}
+use Rattle.tagging.proofs.Steps.{step-both, tag-induction}
 
 -- what one command adds: at most one fault, with its kernel steps
 record Grows (limit : ℕ) (u w : Tag) : Type 0 where

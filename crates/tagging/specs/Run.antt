@@ -15,7 +15,7 @@ use Rattle.machine.specs.Run.{atEnd, step}
 use Rattle.machine.specs.Run as Run
 use Rattle.step.specs.Layout.{stackWords, spaceAfter, spaceUnless}
 use Rattle.handler.specs.Kernel.{Instruction, handle}
-use Rattle.tagged.specs.Consult.{Tag, fiveOf, Consulted, consult, counted}
+use Rattle.tagging.specs.Consult.{Tag, fiveOf, Consulted, consult, counted}
 
 -- where a run ended, and with what rule memory and counts
 pub record Result : Type 0 where

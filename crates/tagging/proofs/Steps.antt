@@ -19,8 +19,8 @@ use Rattle.machine.proofs.Run.{run-stepped}
 use Rattle.machine.proofs.Holds.{run-range}
 use Rattle.step.proofs.Link.Phases.{keyOf}
 use Rattle.handler.specs.Kernel.{Instruction}
-use Rattle.tagged.specs.Consult.{Tag}
-use Rattle.tagged.specs.Run.{Result, rules, tagRequest, tagCommand, tagAt, tagStep, result, unlessEnd, after, tagRun}
+use Rattle.tagging.specs.Consult.{Tag}
+use Rattle.tagging.specs.Run.{Result, rules, tagRequest, tagCommand, tagAt, tagStep, result, unlessEnd, after, tagRun}
 
 -- ════════════════════════════════════════════════════════════════════════════════════════════
 -- One step

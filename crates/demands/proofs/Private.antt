@@ -1,4 +1,4 @@
--- Demand 3 (specs/Claim.antt): what an accepted run leaves on either engine is the machine's run of the sheet's commands under the standard
+-- Demand 3 (specs/Privacy.antt): what an accepted run leaves on either engine is the machine's run of the sheet's commands under the standard
 -- policy, from the same cells, and its lines stand in the output space; so the machine's theorem speaks of it.
 -- Assumes nothing.
 use mathlib.Core.Path.{_≡_, refl, sym, ap, ap₂, _∙_}
@@ -18,10 +18,10 @@ use Rattle.step.specs.Layout.{lineNumbers, lineLabels}
 use Rattle.policy.specs.Standard.{standardBytes}
 use Rattle.plain.specs.declared.run.Ran as PlainRan
 use Rattle.plain.specs.Plain.{Memory, room, result}
-use Rattle.tagged.specs.Refusals.{Nothing, PlainChecks, TaggedChecks}
-use Rattle.tagged.proofs.Refusals.{plain-demand, tagged-demand}
-use Rattle.tagged.proofs.Both.{Stops, plain-stops, tagged-stops}
-use Rattle.privacy.specs.Claim.{linesOf, linesIn, cellsIn, Ran, onPlain, onTagged, Claim}
+use Rattle.demands.specs.Refusals.{Nothing, PlainChecks, TaggedChecks}
+use Rattle.demands.specs.Privacy.{linesOf, linesIn, cellsIn, Ran, onPlain, onTagged, Claim}
+use Rattle.demands.proofs.Refusals.{plain-demand, tagged-demand}
+use Rattle.demands.proofs.Both.{Stops, plain-stops, tagged-stops}
 
 -- lines that are laid into an output space stand in it
 lines-before : (ls : List Line) (numbers marks : List ℤ) → linesOf (length ls) (lineNumbers ls ++ numbers) (lineLabels ls ++ marks) ≡ ls

@@ -24,8 +24,8 @@ use Rattle.handler.specs.Kernel.{handle}
 use Rattle.handler.specs.Translate.{translate}
 use Rattle.handler.specs.Row.{faultRow}
 use Rattle.handler.specs.Claim.{rowOf}
-use Rattle.tagged.specs.Consult.{Tag, fiveOf, Consulted, matches}
-use Rattle.tagged.specs.Run.{Result, tagRun, tagStack}
+use Rattle.tagging.specs.Consult.{Tag, fiveOf, Consulted, matches}
+use Rattle.tagging.specs.Run.{Result, tagRun, tagStack}
 
 -- a rule memory of seven words that check 7 accepts
 pub record Fits (t : Table) (ws : List ℤ) : Type 0 where

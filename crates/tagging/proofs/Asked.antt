@@ -26,7 +26,7 @@ use Rattle.policy.specs.Read.{supplies}
 use Rattle.policy.specs.Evaluate.{evalLabel, evalCondition, evalRule, ruleOf, evaluate}
 use Rattle.policy.specs.Row.{Marked, WellMarked}
 use Rattle.handler.specs.Row.{PresentIf, Supplied}
-use Rattle.tagged.specs.Claim.{denies}
+use Rattle.tagging.specs.Claim.{denies}
 
 -- ════════════════════════════════════════════════════════════════════════════════════════════
 -- Keys

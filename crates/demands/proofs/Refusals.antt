@@ -32,14 +32,14 @@ use Rattle.plain.specs.Start as PlainStart
 use Rattle.plain.specs.Plain.{Memory, room, begin, plain}
 use Rattle.plain.specs.Plain as Plain
 use Rattle.plain.proofs.Accepted.{never, both-kept}
-use Rattle.tagged.specs.Run.{Result}
+use Rattle.tagging.specs.Run.{Result}
 use Rattle.tagged.specs.Start.{rulesLimit, rowLimit, handlerLimit, startLimits, Started, refused, accepted}
 use Rattle.tagged.specs.Start.{within, startDecoded, startOf}
 use Rattle.tagged.specs.Tagged.{Ended, result, summary, left, outcomeOf, tagged}
-use Rattle.tagged.specs.Refusals.{Gives, broken, Nothing, _before_, first, next, Sheet, Cells, Labels, Rules, OfSheet, OfTable, Row, Space}
-use Rattle.tagged.specs.Refusals.{HandlerSpace, Allowance, PlainChecks, TaggedChecks, PlainDemand, TaggedDemand, PlainClaim, TaggedClaim}
 use Rattle.tagged.proofs.Accepted.{Ready, start-ready}
-use Rattle.tagged.proofs.Refines.{ready-agrees}
+use Rattle.demands.specs.Refusals.{Gives, broken, Nothing, _before_, first, next, Sheet, Cells, Labels, Rules, OfSheet, OfTable, Row, Space}
+use Rattle.demands.specs.Refusals.{HandlerSpace, Allowance, PlainChecks, TaggedChecks, PlainDemand, TaggedDemand, PlainClaim, TaggedClaim}
+use Rattle.demands.proofs.Accepted.{ready-agrees}
 
 -- ════════════════════════════════════════════════════════════════════════════════════════════
 -- Limits and checks

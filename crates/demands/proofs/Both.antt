@@ -18,14 +18,14 @@ use Rattle.plain.specs.Start as PlainStart
 use Rattle.plain.specs.Plain.{Memory, room, begin, plain}
 use Rattle.plain.specs.Plain as Plain
 use Rattle.plain.proofs.Accepted.{never, start-fine}
+use Rattle.tagging.specs.Claim.{Agrees}
 use Rattle.tagged.specs.declared.run.Ran.{Ran}
 use Rattle.tagged.specs.declared.Answer.the-variants as Answer
-use Rattle.tagged.specs.Claim.{Agrees}
 use Rattle.tagged.specs.Start.{Started, refused, accepted, startOf}
 use Rattle.tagged.specs.Tagged.{Ended, ended, tagOf, result, summary, left, outcomeOf, tagged}
-use Rattle.tagged.specs.Both.{Same, Claim}
 use Rattle.tagged.proofs.Accepted.{start-ready}
-use Rattle.tagged.proofs.Refines.{standard-agrees}
+use Rattle.demands.specs.Both.{Same, Claim}
+use Rattle.demands.proofs.Accepted.{standard-agrees}
 
 module _ (sheet : List ℕ) (m : Memory) (fuel : ℕ) where
   -- a result and the lent memory are what the plain engine leaves of the sheet's commands

@@ -21,9 +21,9 @@ use Rattle.handler.specs.Translate.{translate}
 use Rattle.handler.specs.Row.{faultRow}
 use Rattle.handler.specs.Claim.{outcomeOf, rowOf, Handled}
 use Rattle.handler.proofs.Handler.{handler-run}
-use Rattle.tagged.specs.Consult.{fiveOf, sameWord, matches, ruled, again, faulted, consultIf, consult}
-use Rattle.tagged.specs.Claim.{Fits, Ruled}
-use Rattle.tagged.proofs.Asked.{marked-supplied, marked-has, evaluate-range}
+use Rattle.tagging.specs.Consult.{fiveOf, sameWord, matches, ruled, again, faulted, consultIf, consult}
+use Rattle.tagging.specs.Claim.{Fits, Ruled}
+use Rattle.tagging.proofs.Asked.{marked-supplied, marked-has, evaluate-range}
 
 -- ════════════════════════════════════════════════════════════════════════════════════════════
 -- The words of a row

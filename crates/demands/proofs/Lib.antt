@@ -1,0 +1,4 @@
+pub mod Accepted
+pub mod Refusals
+pub mod Both
+pub mod Private

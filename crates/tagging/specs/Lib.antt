@@ -1,0 +1,3 @@
+pub mod Consult
+pub mod Run
+pub mod Claim
