@@ -6,6 +6,7 @@ use label::Label;
 use word::kind::Pc;
 ghost use mathlib.Core.Path.{_≡_};
 ghost use Rattle.step.specs.Words.{started, pushed, pushedStack, dropped, gone, following, printed, slotAt};
+ghost use Rattle.step.specs.Lent.{outcome};
 
 // The machine record: the place, its label, how many entries the stack has and how many lines are written.
 pub struct Machine {
@@ -87,6 +88,12 @@ impl Machine {
 pub struct Stepped {
     pub machine: Machine,
     pub stop: u64,
+}
+
+pub fn stopped(machine: Machine, stop: u64) -> Stepped
+    ensures { λ r. ⌜ r ≡ outcome machine stop ⌝ }
+{
+    Stepped { machine, stop }
 }
 
 // What stands on the stack, counted from the top: a value (kind 0), a frame (kind 1) or nothing (kind 2).
