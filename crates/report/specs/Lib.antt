@@ -1,0 +1,3 @@
+pub mod Job
+pub mod Lines
+pub mod Written
