@@ -1,11 +1,11 @@
 -- Printing the lines of an output space one by one: what is left to print, laid from where it stands, gives the whole.
 -- Assumes nothing.
 use mathlib.Core.Path.{_≡_, refl, sym, ap, ap₂, _∙_}
-use mathlib.Core.Bool.{true, false}
+use mathlib.Core.Bool.{Bool, true, false}
 use mathlib.Core.List.{List, [], _∷_, _++_}
 use Prim.Native.Nat.{ℕ, zero, suc, _+_, _*_, _^_, _<_, _≤_, min}
 use native.Mathlib.Numerals.{add-one}
-use native.Mathlib.Nat.{zero-add}
+use native.Mathlib.Nat.{zero-add, add-zero}
 use native.Mathlib.Omega.{arith}
 use lib.IntN.{ℤ, pos}
 use lib.Signed.{mag}
@@ -15,7 +15,8 @@ use Rattle.label.specs.Label.{flows}
 use Rattle.word.specs.Lay.{laidAt}
 use Rattle.word.proofs.Lay.{laidAt-nil, laidAt-append, length-laidAt}
 use Rattle.machine.specs.Atom.{Line}
-use Rattle.report.specs.Lines.{lineText, linesText, lineOf, linesOf}
+use Rattle.step.specs.Words.{choose}
+use Rattle.report.specs.Lines.{lineText, shownText, linesText, lineOf, linesOf}
 use Rattle.report.specs.Written.{Written}
 use Rattle.report.proofs.Texts.{line-short}
 
@@ -57,6 +58,24 @@ module _ (numbers marks : List ℤ) (written : ℕ) where
       (sym (add-one i))
 
 -- ════════════════════════════════════════════════════════════════════════════════════════════
+-- A line that the reader may see
+-- ════════════════════════════════════════════════════════════════════════════════════════════
+
+pub shown-short : (reader : ℕ) (x : Line) → mag (x .number) < 2 ^ 63 → length (shownText reader x) ≤ 30
+shown-short reader x h = by (flows (x .label) reader) (line-short x h)
+  where
+    by : (b : Bool) → length (lineText x) ≤ 30 → length (choose b (lineText x) []) ≤ 30
+    by true l = l
+    by false l = omega arith
+
+pub written-shown : (reader : ℕ) (x : Line) (old : List ℕ) (at next : ℕ) (new : List ℕ) → flows (x .label) reader ≡ true
+    → Written (lineText x) old at next new → Written (shownText reader x) old at next new
+written-shown reader x old at next new f w = rw f w
+
+pub written-hidden : (reader : ℕ) (x : Line) (old : List ℕ) (at : ℕ) → flows (x .label) reader ≡ false → Written (shownText reader x) old at at old
+written-hidden reader x old at f = rw f (record { end = sym (add-zero at); space = sym (laidAt-nil at old) })
+
+-- ════════════════════════════════════════════════════════════════════════════════════════════
 -- The loop
 -- ════════════════════════════════════════════════════════════════════════════════════════════
 
@@ -83,40 +102,24 @@ module _ (reader : ℕ) (xs : List Line) (out₀ : List ℕ) where
           space = sym (ap (λ (t : List ℕ). laidAt at t out) e ∙ laidAt-nil at out) ∙ p .left;
         }
 
-    module _ (x : Line) (d : drop i xs ≡ x ∷ drop (i + 1) xs) (h : i < length xs) where
-      -- its label does not flow to the reader's set
-      pub printing-hidden : flows (x .label) reader ≡ false → Printing reader xs out₀ out at (i + 1)
-      unfolding linesText
-      printing-hidden f =
-          let e : linesText reader (drop i xs) ≡ linesText reader (drop (i + 1) xs) = ap (linesText reader) d ∙ rw f in
-          let s = p .short in
-          record {
-            few = omega arith;
-            short = omega arith;
-            same = p .same;
-            left = rw e at (p .left);
-            rest = rw e at (p .rest);
-          }
-
-      -- it does
-      pub printing-shown : flows (x .label) reader ≡ true → mag (x .number) < 2 ^ 63 → 30 * length xs ≤ length out₀
-          → (next : ℕ) (new : List ℕ) → Written (lineText x) out at next new → Printing reader xs out₀ new next (i + 1)
-      unfolding linesText
-      printing-shown f k room next new w =
-          let e : linesText reader (drop i xs) ≡ lineText x ++ linesText reader (drop (i + 1) xs) = ap (linesText reader) d ∙ rw f in
-          let s = p .short in
-          let m = p .same in
-          let l = line-short x k in
-          let n = w .end in
-          let fits : at + length (lineText x) ≤ length out = omega arith in
-          record {
-            few = omega arith;
-            short = omega arith;
-            same = ap length (w .space) ∙ length-laidAt at (lineText x) out fits ∙ p .same;
-            left =
-                ap₂ (λ (n : ℕ) (l : List ℕ). laidAt n (linesText reader (drop (i + 1) xs)) l) n (w .space)
-                ∙ sym (laidAt-append at (lineText x) (linesText reader (drop (i + 1) xs)) out fits)
-                ∙ ap (λ (t : List ℕ). laidAt at t out) (sym e)
-                ∙ p .left;
-            rest = omega (arith, p .rest, ap length e, length-append (lineText x) (linesText reader (drop (i + 1) xs)));
-          }
+    pub printing-next : (x : Line) → drop i xs ≡ x ∷ drop (i + 1) xs → i < length xs → mag (x .number) < 2 ^ 63 → 30 * length xs ≤ length out₀
+        → (next : ℕ) (new : List ℕ) → Written (shownText reader x) out at next new → Printing reader xs out₀ new next (i + 1)
+    unfolding linesText
+    printing-next x d h k room next new w =
+        let e : linesText reader (drop i xs) ≡ shownText reader x ++ linesText reader (drop (i + 1) xs) = ap (linesText reader) d in
+        let s = p .short in
+        let m = p .same in
+        let l = shown-short reader x k in
+        let n = w .end in
+        let fits : at + length (shownText reader x) ≤ length out = omega arith in
+        record {
+          few = omega arith;
+          short = omega arith;
+          same = ap length (w .space) ∙ length-laidAt at (shownText reader x) out fits ∙ p .same;
+          left =
+              ap₂ (λ (n : ℕ) (l : List ℕ). laidAt n (linesText reader (drop (i + 1) xs)) l) n (w .space)
+              ∙ sym (laidAt-append at (shownText reader x) (linesText reader (drop (i + 1) xs)) out fits)
+              ∙ ap (λ (t : List ℕ). laidAt at t out) (sym e)
+              ∙ p .left;
+          rest = omega (arith, p .rest, ap length e, length-append (shownText reader x) (linesText reader (drop (i + 1) xs)));
+        }

@@ -100,14 +100,13 @@ module _ (s : List ℕ) (values₀ labels₀ values labels : List ℤ) (at cells
 
   -- nothing is left to read
   ends : (e : Ending) → reading heard e ≡ readJob s → Answered s values₀ labels₀ (answerOf heard e) values labels
-  ends e d =
-      (
-        ap jobAnswer d,
-        (
-          g .stored ∙ ap (λ (r : Reading). fitted (r .heard .values) values₀) d,
-          g .marked ∙ ap (λ (r : Reading). fitted (r .heard .labels) labels₀) d,
-        ),
-      )
+  ends e d = (
+    ap jobAnswer d,
+    (
+      g .stored ∙ ap (λ (r : Reading). fitted (r .heard .values) values₀) d,
+      g .marked ∙ ap (λ (r : Reading). fitted (r .heard .labels) labels₀) d,
+    ),
+  )
 
   over : (n : ℕ) → length s ≤ at → readFrom n s at heard ≡ reading heard (bad (length s))
   unfolding readFrom
@@ -125,7 +124,7 @@ module _ (s : List ℕ) (values₀ labels₀ values labels : List ℤ) (at cells
     unfolding readFrom
     next =
         let e : readFrom (suc (g .commands - 1)) s at heard
-            ≡ follow (itemAt s at) at heard (λ at′ h′. readFrom (g .commands - 1) s at′ h′) = rw (lt-ltb at (length s) h) in
+        ≡ follow (itemAt s at) at heard (λ at′ h′. readFrom (g .commands - 1) s at′ h′) = rw (lt-ltb at (length s) h) in
         sym e ∙ ap (λ n. readFrom n s at heard) more ∙ g .left
 
     -- by the command there

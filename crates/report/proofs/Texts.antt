@@ -45,6 +45,13 @@ written-append xs ys old mid new at p q h a b =
           ∙ sym (laidAt-append at xs ys old h);
     }
 
+-- what room there is after it
+pub written-room : {text old new : List ℕ} {at next : ℕ} (m k : ℕ) → length text ≤ m → at + (m + k) ≤ length old
+    → Written text old at next new → next + k ≤ length new
+written-room {text} {old} {new} {at} {next} m k l h w =
+    let n = w .end in
+    omega (arith, ap length (w .space), length-laidAt at text old (omega arith))
+
 -- copying a text byte by byte: what is left to copy, laid from where it stands, gives the whole
 pub record Copying (text out₀ : List ℕ) (at : ℕ) (out : List ℕ) (i : ℕ) : Type 0 where
   pub few : i ≤ length text
@@ -65,9 +72,9 @@ module _ (text out₀ : List ℕ) (at : ℕ) where
           same = length-set out (at + i) (getD text i 0) ∙ s;
           left =
               sym (
-                ap (λ (l : List ℕ). laidAt (at + i) l out) (drop-cons text i 0 h)
-                ∙ laidAt-cons (at + i) (getD text i 0) (drop (suc i) text) out (omega arith)
-                ∙ rw (n, ← add-one i)
+              ap (λ (l : List ℕ). laidAt (at + i) l out) (drop-cons text i 0 h)
+              ∙ laidAt-cons (at + i) (getD text i 0) (drop (suc i) text) out (omega arith)
+              ∙ rw (n, ← add-one i)
               )
               ∙ c .left;
         }

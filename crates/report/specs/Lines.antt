@@ -32,10 +32,13 @@ refusedText number place = refusedWord ++ space ++ natural number ++ space ++ na
 unfoldable pub lineText : Line → List ℕ
 lineText x = decimal (x .number) ++ space ++ hexadecimal (x .label) ++ newline
 
--- the lines whose label flows to the reader's set, in order
+-- a line whose label flows to the reader's set
+abbrev pub shownText : (reader : ℕ) → Line → List ℕ
+shownText reader x = choose (flows (x .label) reader) (lineText x) []
+
 unfoldable pub linesText : (reader : ℕ) → List Line → List ℕ
 linesText reader [] = []
-linesText reader (x ∷ xs) = choose (flows (x .label) reader) (lineText x) [] ++ linesText reader xs
+linesText reader (x ∷ xs) = shownText reader x ++ linesText reader xs
 
 -- the lines of an output space: a number word and a label word each
 abbrev pub lineOf : ℤ → ℤ → Line

@@ -6,7 +6,7 @@ ghost use mathlib.Core.Path.{_≡_};
 ghost use Prim.Native.Nat.{_+_, _*_, _≤_, min};
 ghost use lib.ListN.{length, take};
 ghost use Rattle.word.specs.Text.{natural, decimal, hexadecimal};
-ghost use Rattle.report.specs.Lines.{jobText, refusedText, lineText, linesOf, linesText};
+ghost use Rattle.report.specs.Lines.{jobText, refusedText, lineText, shownText, linesOf, linesText};
 ghost use Rattle.report.specs.Written.{Written, nextOf};
 
 fn bytes(text: &[u8], out: &mut [u8], at: usize) -> usize
@@ -85,6 +85,18 @@ fn line(n: i64, label: Label, out: &mut [u8], at: usize) -> usize
     bytes(b"\n", out, second)
 }
 
+// A line that the reader may see, or nothing.
+fn shown(n: i64, label: Label, reader: Label, out: &mut [u8], at: usize) -> usize
+    requires { ⌜ at + 30 ≤ length (now out) ⌝ }
+    ensures { λ r. ⌜ Written (shownText (reader .0) (record { number = n; label = label .0 })) (now (out .entry)) at r (now (out .exit)) ⌝ }
+{
+    if label.flows(reader) {
+        line(n, label, out, at)
+    } else {
+        at
+    }
+}
+
 fn smaller(a: usize, b: usize) -> usize
     ensures { λ r. ⌜ r ≡ min a b ⌝ }
 {
@@ -92,7 +104,13 @@ fn smaller(a: usize, b: usize) -> usize
 }
 
 // The first lines of an output space, those whose label flows to the reader's set.
-pub(crate) fn lines(numbers: &[i64], marks: &[i64], written: usize, reader: Label, out: &mut [u8]) -> usize
+pub(crate) fn lines(
+    numbers: &[i64],
+    marks: &[i64],
+    written: usize,
+    reader: Label,
+    out: &mut [u8],
+) -> usize
     requires { ⌜ 30 * length (now numbers) ≤ length (now out) ⌝ }
     ensures { λ r. ⌜ Written (linesText (reader .0) (take written (linesOf (now (numbers .entry)) (now (marks .entry)))))
         (now (out .entry)) 0 r (now (out .exit)) ⌝ }
@@ -101,10 +119,9 @@ pub(crate) fn lines(numbers: &[i64], marks: &[i64], written: usize, reader: Labe
     let mut at: usize = 0;
     let mut i: usize = 0;
     while i < count {
+        let n = word::memory::at(numbers, i);
         let label = Label::low(word::memory::at(marks, i));
-        if label.flows(reader) {
-            at = line(word::memory::at(numbers, i), label, out, at);
-        }
+        at = shown(n, label, reader, out, at);
         i += 1;
     }
     at

@@ -1,38 +1,38 @@
+-- `report::print::bad_job` meets its contract: its parts are written one after the other.
+-- Assumes nothing.
+use native.Mathlib.Omega.{arith}
+use Rattle.report.proofs.Texts.{written-room, natural-short, written-job}
 use borrow.Author.Needs.{needs}
 use Rattle.report.proofs.print.bad_job.Statement.{statement}
 use Rattle.report.proofs.print.bad_job.Tie as tie
-use Rattle.report.proofs.print.bad_job.Reads as reads
-use Rattle.report.proofs.print.bad_job.Lts as lts
-use Rattle.report.proofs.print.bytes.Reads as bytes-reads
-use Rattle.report.proofs.print.number.Reads as number-reads
 
--- src/print.rt:60:22
 slice-aggregate-bytes : tie.Need-slice-aggregate-bytes
 slice-aggregate-bytes c = search needs
 
--- src/print.rt:60:9
 bytes-requires : tie.Need-bytes-requires
 bytes-requires c κs = search needs
 
--- src/print.rt:61:9
 number-requires : tie.Need-number-requires
 number-requires c κs = search needs
 
--- src/print.rt:62:11
 slice-aggregate-bytes-2 : tie.Need-slice-aggregate-bytes-2
 slice-aggregate-bytes-2 c = search needs
 
--- src/print.rt:62:5
 bytes-requires-2 : tie.Need-bytes-requires-2
-bytes-requires-2 c κs = ?
+bytes-requires-2 c κs =
+    written-room 20 1 (natural-short _)
+    (written-room 4 21 (omega arith) (omega (arith, c .before .before .before .before .before .before .before .before .before .before .before .before .pre)) (c .before .before .before .before .before .before .before .before .bytes .ensures))
+    (c .before .before .before .before .number .ensures)
 
--- src/print.rt:56:1
 same-length : tie.Need-same-length
 same-length c = search needs
 
--- src/print.rt:56:1
 returns : tie.Need-returns
-returns c = ?
+returns c =
+    written-job _ _ _ _ _ _ _ _ (c .before .before .before .before .before .before .before .before .before .before .before .before .before .before .before .pre)
+    (c .before .before .before .before .before .before .before .before .before .before .before .bytes .ensures)
+    (c .before .before .before .before .before .before .before .number .ensures)
+    (c .before .before .bytes2 .ensures)
 
 pub bad-job-spec : {M : Type 1} → statement M
 bad-job-spec =

@@ -1,43 +1,62 @@
+-- `report::print::line` meets its contract: its parts are written one after the other.
+-- Assumes nothing.
+use native.Mathlib.Omega.{arith}
+use denote.Ref.{now}
+use Rattle.word.proofs.Signed.{back}
+use Rattle.word.specs.Text.{decimal}
+use Rattle.report.specs.Written.{Written}
+use Rattle.report.proofs.Texts.{written-room, decimal-short, hexadecimal-length, written-line}
 use borrow.Author.Needs.{needs}
 use Rattle.report.proofs.print.line.Statement.{statement}
 use Rattle.report.proofs.print.line.Tie as tie
-use Rattle.report.proofs.print.line.Reads as reads
-use Rattle.report.proofs.print.line.Lts as lts
-use Rattle.report.proofs.print.bytes.Reads as bytes-reads
-use Rattle.report.proofs.print.digits.Reads as digits-reads
-use Rattle.report.proofs.print.signed_number.Reads as signed-number-reads
 
--- src/print.rt:82:9
+-- the number
+first : (c : tie.After-signed-number)
+    → Written (decimal (c .before .before .before .args .n)) (now (c .before .before .before .args .out)) (c .before .before .before .args .at)
+    (c .signed-number .result) (c .signed-number .last .1 .0)
+first c = rw (back (c .before .before .before .fits .n)) at (c .signed-number .ensures)
+
 signed-number-requires : tie.Need-signed-number-requires
 signed-number-requires c κs = search needs
 
--- src/print.rt:83:21
 slice-aggregate-bytes : tie.Need-slice-aggregate-bytes
 slice-aggregate-bytes c = search needs
 
--- src/print.rt:83:9
 bytes-requires : tie.Need-bytes-requires
-bytes-requires c κs = ?
+bytes-requires c κs =
+    let start = c .before .before .before .before .before .before .before in
+    written-room 20 1 (decimal-short (start .args .n) (start .fits .n .sfits)) (omega (arith, start .pre)) (first (c .before .before .before .before))
 
--- src/print.rt:84:9
 digits-requires : tie.Need-digits-requires
-digits-requires c κs = ?
+digits-requires c κs =
+    let start = c .before .before .before .before .before .before .before .before .before .before .before in
+    written-room 1 8 (omega arith)
+    (written-room 20 9 (decimal-short (start .args .n) (start .fits .n .sfits)) (omega (arith, start .pre)) (first (c .before .before .before .before .before .before .before .before)))
+    (c .before .before .before .bytes .ensures)
 
--- src/print.rt:85:11
 slice-aggregate-bytes-2 : tie.Need-slice-aggregate-bytes-2
 slice-aggregate-bytes-2 c = search needs
 
--- src/print.rt:85:5
 bytes-requires-2 : tie.Need-bytes-requires-2
-bytes-requires-2 c κs = ?
+bytes-requires-2 c κs =
+    let start = c .before .before .before .before .before .before .before .before .before .before .before .before .before .before .before .before in
+    written-room 8 1 (omega (arith, hexadecimal-length (start .args .label .0)))
+    (written-room 1 9 (omega arith)
+    (written-room 20 10 (decimal-short (start .args .n) (start .fits .n .sfits)) (omega (arith, start .pre)) (first (c .before .before .before .before .before .before .before .before .before .before .before .before .before)))
+    (c .before .before .before .before .before .before .before .before .bytes .ensures))
+    (c .before .before .before .before .digits .ensures)
 
--- src/print.rt:78:1
 same-length : tie.Need-same-length
 same-length c = search needs
 
--- src/print.rt:78:1
 returns : tie.Need-returns
-returns c = ?
+returns c =
+    let start = c .before .before .before .before .before .before .before .before .before .before .before .before .before .before .before .before .before .before .before in
+    written-line _ _ _ _ _ _ _ _ _ _ _ (start .fits .n .sfits) (start .pre)
+    (first (c .before .before .before .before .before .before .before .before .before .before .before .before .before .before .before .before))
+    (c .before .before .before .before .before .before .before .before .before .before .before .bytes .ensures)
+    (c .before .before .before .before .before .before .before .digits .ensures)
+    (c .before .before .bytes2 .ensures)
 
 pub line-spec : {M : Type 1} → statement M
 line-spec =
