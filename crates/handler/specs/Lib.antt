@@ -5,3 +5,5 @@ pub mod Claim
 pub mod Space
 pub mod Words
 pub mod Reading
+pub mod Emit
+pub mod Translated

@@ -7,6 +7,8 @@ pub mod Represents
 pub mod Needs
 pub mod Runs
 pub mod Carried
+pub mod Place
+pub mod Space
 pub mod Keep
 pub mod Length
 pub mod Looks

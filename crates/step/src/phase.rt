@@ -74,15 +74,15 @@ fn load_inputs(m: Machine, stack: &[i64], values: &[i64], labels: &[i64]) -> Inp
     ensures { λ r. ⌜ r ≡ loadInputs m (now (stack .entry)) (now (values .entry)) (now (labels .entry)) ⌝ }
 {
     let depth = m.depth;
-    let a = crate::look(stack, depth, 0);
-    if a.kind != 0 {
+    let address = crate::look(stack, depth, 0);
+    if address.kind != 0 {
         return halt(3);
     }
-    let cell = Address(a.number).index(values.len());
+    let cell = Address(address.number).index(values.len());
     match cell {
         Index::At(i) => {
             let held = Label::low(word::memory::at(labels, i));
-            found(a.label.word(), held.word(), -1)
+            found(address.label.word(), held.word(), -1)
         }
         Index::Outside => halt(5),
     }
@@ -93,19 +93,19 @@ fn store_inputs(m: Machine, stack: &[i64], values: &[i64], labels: &[i64]) -> In
     ensures { λ r. ⌜ r ≡ storeInputs m (now (stack .entry)) (now (values .entry)) (now (labels .entry)) ⌝ }
 {
     let depth = m.depth;
-    let a = crate::look(stack, depth, 0);
-    if a.kind != 0 {
+    let address = crate::look(stack, depth, 0);
+    if address.kind != 0 {
         return halt(3);
     }
-    let b = crate::look(stack, depth, 1);
-    if b.kind != 0 {
+    let value = crate::look(stack, depth, 1);
+    if value.kind != 0 {
         return halt(3);
     }
-    let cell = Address(a.number).index(values.len());
+    let cell = Address(address.number).index(values.len());
     match cell {
         Index::At(i) => {
             let held = Label::low(word::memory::at(labels, i));
-            found(a.label.word(), b.label.word(), held.word())
+            found(address.label.word(), value.label.word(), held.word())
         }
         Index::Outside => halt(5),
     }
@@ -116,15 +116,15 @@ fn call_inputs(m: Machine, stack: &[i64]) -> Inputs
     ensures { λ r. ⌜ r ≡ callInputs m (now (stack .entry)) ⌝ }
 {
     let depth = m.depth;
-    let a = crate::look(stack, depth, 0);
-    if a.kind != 0 {
+    let target = crate::look(stack, depth, 0);
+    if target.kind != 0 {
         return halt(3);
     }
-    let b = crate::look(stack, depth, 1);
-    if b.kind != 0 {
+    let argument = crate::look(stack, depth, 1);
+    if argument.kind != 0 {
         return halt(3);
     }
-    found(a.label.word(), -1, -1)
+    found(target.label.word(), -1, -1)
 }
 
 // Ret: a frame.
@@ -132,9 +132,9 @@ fn frame_inputs(m: Machine, stack: &[i64]) -> Inputs
     ensures { λ r. ⌜ r ≡ frameInputs m (now (stack .entry)) ⌝ }
 {
     let depth = m.depth;
-    let a = crate::look(stack, depth, 0);
-    if a.kind == 1 {
-        return found(a.label.word(), -1, -1);
+    let frame = crate::look(stack, depth, 0);
+    if frame.kind == 1 {
+        return found(frame.label.word(), -1, -1);
     }
     halt(4)
 }
@@ -249,8 +249,8 @@ fn load(place: Label, result: Label, m: Machine, stack: &mut [i64], values: &[i6
     ensures { λ r. ⌜ onStack r (now (stack .exit)) ≡ loadEffect (place .0) (result .0) m (now (stack .entry)) (now (values .entry)) ⌝ }
 {
     let depth = m.depth;
-    let a = crate::look(stack, depth, 0);
-    let cell = Address(a.number).index(values.len());
+    let address = crate::look(stack, depth, 0);
+    let cell = Address(address.number).index(values.len());
     match cell {
         Index::At(i) => {
             let over = m.drop().push(stack, 0, word::memory::at(values, i), result);
@@ -273,12 +273,12 @@ fn store(
         ≡ storeEffect (place .0) (result .0) m (now (stack .entry)) (now (values .entry)) (now (labels .entry)) ⌝ }
 {
     let depth = m.depth;
-    let a = crate::look(stack, depth, 0);
-    let cell = Address(a.number).index(values.len());
+    let address = crate::look(stack, depth, 0);
+    let cell = Address(address.number).index(values.len());
     match cell {
         Index::At(i) => {
-            let b = crate::look(stack, depth, 1);
-            word::memory::put(values, i, b.number);
+            let value = crate::look(stack, depth, 1);
+            word::memory::put(values, i, value.number);
             word::memory::put(labels, i, result.word());
             crate::stopped(m.drop().drop().following(place), 9)
         }
@@ -311,13 +311,13 @@ fn call(place: Label, result: Label, m: Machine, stack: &mut [i64]) -> Stepped
 {
     let depth = m.depth;
     let pc = m.pc;
-    let a = crate::look(stack, depth, 0);
-    let b = crate::look(stack, depth, 1);
+    let target = crate::look(stack, depth, 0);
+    let argument = crate::look(stack, depth, 1);
     let back = pc.offset(1);
     let under = m.drop().drop();
     let framed = under.push(stack, 1, back.0, result);
-    let over = framed.push(stack, 0, b.number, b.label);
-    crate::stopped(over.goto(Pc(a.number), place), 9)
+    let over = framed.push(stack, 0, argument.number, argument.label);
+    crate::stopped(over.goto(Pc(target.number), place), 9)
 }
 
 // The second phase, chosen by the same tree, with the two labels that the rule gave.

@@ -1,0 +1,10 @@
+pub mod Asked
+pub mod Rules
+pub mod Steps
+pub mod Faults
+pub mod Refines
+pub mod Ruled
+pub mod Simulate
+pub mod Tags
+pub mod Whole
+pub mod Accepted

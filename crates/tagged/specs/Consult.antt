@@ -6,8 +6,8 @@ use lib.IntN.{ℤ, pos, negsuc}
 use lib.Dec.{eqb}
 use Rattle.label.specs.Word.{lowLabel}
 use Rattle.program.specs.Command.{codeOf}
-use Rattle.machine.specs.Rule.{Key, Verdict, denied, allowed}
-use Rattle.policy.specs.Row.{word, inputWord}
+use Rattle.machine.specs.Rule.{Key, inputWord, Verdict, denied, allowed}
+use Rattle.policy.specs.Row.{word}
 use Rattle.handler.specs.Kernel.{Outcome, returned, failed, Result}
 use Rattle.handler.specs.Kernel as Kernel
 
@@ -17,6 +17,9 @@ pub record Tag : Type 0 where
   pub faults : ℕ
   pub kernelSteps : ℕ
 
+abbrev pub tag : List ℤ → ℕ → ℕ → Tag
+tag row faults kernelSteps = record { row = row; faults = faults; kernelSteps = kernelSteps }
+
 -- a command about to run, as the five words: code, P, L1, L2, L3; missing inputs are −1
 pub record Five : Type 0 where
   pub code : ℤ
@@ -25,15 +28,11 @@ pub record Five : Type 0 where
   pub input2 : ℤ
   pub input3 : ℤ
 
+abbrev pub words : ℤ → ℤ → ℤ → ℤ → ℤ → Five
+words code pc input1 input2 input3 = record { code = code; pc = pc; input1 = input1; input2 = input2; input3 = input3 }
+
 abbrev pub fiveOf : Key → Five
-fiveOf k =
-    record {
-      code = pos (codeOf (k .opcode));
-      pc = pos (k .pc);
-      input1 = inputWord (k .input1);
-      input2 = inputWord (k .input2);
-      input3 = inputWord (k .input3);
-    }
+fiveOf k = words (pos (codeOf (k .opcode))) (pos (k .pc)) (inputWord (k .input1)) (inputWord (k .input2)) (inputWord (k .input3))
 
 abbrev pub sameWord : ℤ → ℤ → Bool
 sameWord (pos a) (pos b) = eqb a b
@@ -87,4 +86,4 @@ consult handler f ws = consultIf (matches f ws) handler f ws
 
 -- the counts go on
 abbrev pub counted : Tag → Consulted → Tag
-counted t c = record { row = c .row; faults = t .faults + c .faults; kernelSteps = t .kernelSteps + c .kernelSteps }
+counted t c = tag (c .row) (t .faults + c .faults) (t .kernelSteps + c .kernelSteps)

@@ -18,7 +18,7 @@ use Rattle.step.specs.Phase.{inputsOf, effectOf}
 use Rattle.handler.specs.Kernel.{Result}
 use Rattle.plain.specs.Loop.{endOr}
 use Rattle.tagged.specs.declared.run.Ran.{Ran}
-use Rattle.tagged.specs.Consult.{Tag, Five, Consulted, consult, counted}
+use Rattle.tagged.specs.Consult.{Tag, tag, Five, words, Consulted, consult, counted}
 
 -- ════════════════════════════════════════════════════════════════════════════════════════════
 -- One command
@@ -36,8 +36,12 @@ unasked row = record { verdict = denied; row = row; faults = 0; kernelSteps = 0 
 abbrev pub acted : After → Consulted → Acted
 acted a c = record { after = a; consulted = c }
 
+-- the rule memory after it, and what it adds to the counts
+abbrev pub added : Consulted → Tag
+added c = tag (c .row) (c .faults) (c .kernelSteps)
+
 abbrev pub five : ℤ → Machine → Inputs → Five
-five word m i = record { code = word; pc = pos (m .label .0); input1 = i .input1; input2 = i .input2; input3 = i .input3 }
+five word m i = words word (pos (m .label .0)) (i .input1) (i .input2) (i .input3)
 
 module _ (handler : List ℤ → Result) (room : ℕ) (word operand : ℤ) (m : Machine) (l : Lent) where
   abbrev pub actRuled : Verdict → After
@@ -67,13 +71,14 @@ pub record Done : Type 0 where
   pub row : List ℤ
   pub lent : Lent
 
+abbrev pub doneOf : Ran → List ℤ → Lent → Done
+doneOf r row l = record { ran = r; row = row; lent = l }
+
+abbrev pub ranWith : Machine → ℕ → ℕ → ℕ → ℕ → Ran
+ranWith m stop steps faults kernel = record { machine = m; stop = stop; steps = steps; faults = faults; kernel = kernel }
+
 abbrev pub done : Machine → ℕ → ℕ → Tag → Lent → Done
-done m stop steps t l =
-    record {
-      ran = record { machine = m; stop = stop; steps = steps; faults = t .faults; kernel = t .kernelSteps };
-      row = t .row;
-      lent = l;
-    }
+done m stop steps t l = doneOf (ranWith m stop steps (t .faults) (t .kernelSteps)) (t .row) l
 
 -- on, after a command that was carried out
 abbrev pub onward : Acted → ℕ → Tag → (Machine → Tag → Lent → Done) → Done

@@ -6,6 +6,8 @@ use lib.ListN.{length}
 use lib.Dec.{leb}
 use Rattle.program.specs.declared.Command.{Command}
 use Rattle.program.specs.declared.Refusal.{Refusal}
+use Rattle.program.specs.declared.Checked.{Checked}
+use Rattle.program.specs.declared.Checked.the-variants as Checked
 use Rattle.program.specs.Decode.{refusal, decode}
 use Rattle.program.specs.Decode as Decode
 use Rattle.policy.specs.Expression.{Table}
@@ -64,3 +66,8 @@ module _ (rules : ReadTable) (row : List ℤ) (values : ℕ) (labels : List ℤ)
 unfoldable pub startOf : List ℕ → List ℕ → List ℤ → ℕ → List ℤ → ℕ → ℕ → ℕ → ℕ → Started
 startOf sheet bytes row values labels program stack handler fuel =
     startDecoded (readTable bytes) row values labels program stack handler fuel (decode sheet)
+
+-- what the check answers: how many commands there are, or the refusal
+abbrev pub startAnswer : Started → Checked
+startAnswer (refused r) = Checked.Refused r
+startAnswer (accepted cs t) = Checked.Accepted (length cs)

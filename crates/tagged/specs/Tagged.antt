@@ -16,7 +16,7 @@ use Rattle.plain.specs.Plain.{Memory, memory, room, begin}
 use Rattle.tagged.specs.declared.run.Ran.{Ran}
 use Rattle.tagged.specs.declared.Answer.{Answer}
 use Rattle.tagged.specs.declared.Answer.the-variants as Answer
-use Rattle.tagged.specs.Consult.{Tag}
+use Rattle.tagged.specs.Consult.{Tag, tag}
 use Rattle.tagged.specs.Run.{Result, tagRun, tagStack}
 use Rattle.tagged.specs.Start.{Started, refused, accepted, startOf}
 
@@ -44,7 +44,7 @@ summary r =
 
 -- a run starts with the rule memory as it was given, no faults and no kernel steps
 abbrev pub tagOf : List ℤ → Tag
-tagOf row = record { row = row; faults = 0; kernelSteps = 0 }
+tagOf row = tag row 0 0
 
 module _ (cs : List Command) (t : Table) (row : List ℤ) (m : Memory) (fuel : ℕ) where
   -- the run with the handler of the table

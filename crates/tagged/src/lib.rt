@@ -1,4 +1,5 @@
 // The tag engine: document 01's machine with its rules as data. Read in specs/: Consult, Run, Start; then Tagged.
+mod consult;
 mod run;
 
 use program::Refusal;

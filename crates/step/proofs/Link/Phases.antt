@@ -21,6 +21,7 @@ use Rattle.step.specs.Words.{choose}
 use Rattle.step.specs.Lent.{outcome, Lent, After, after}
 use Rattle.step.proofs.Link.Represents.{Represents, Sound, Simulates}
 use Rattle.step.proofs.Link.Carried.{machineOf, machine-is}
+use Rattle.step.proofs.Link.Length.{Kept, choose-all, kept-same, effect-lengths}
 use Rattle.step.proofs.Link.Looks.{found, effect, Looks}
 use Rattle.step.proofs.Link.Command.{add-looks, sub-looks, pop-looks, output-looks, push-looks, load-looks}
 use Rattle.step.proofs.Link.Command.{store-looks, jump-looks, bnz-looks, call-looks, ret-looks}
@@ -87,38 +88,51 @@ stop-goes outputFull = refl
 abbrev pub keyOf : Command → State → (l1 l2 l3 : Input) → Key
 keyOf c s l1 l2 l3 = record { opcode = opcode c; pc = s .pc .label; input1 = l1; input2 = l2; input3 = l3 }
 
+-- a rule on the words of the inputs
+abbrev pub OnWords : Type 0
+OnWords = ℤ → ℤ → ℤ → Verdict
+
+-- it answers as the policy does, where it is asked
+abbrev pub Rules : Policy → Command → State → OnWords → Request → Type 0
+Rules π c s rule (halt x) = Unit
+Rules π c s rule (ask l1 l2 l3 k) = rule (inputWord l1) (inputWord l2) (inputWord l3) ≡ π (keyOf c s l1 l2 l3)
+
 module _ (room : ℕ) (c : Command) (m : Machine) (l : Lent) where
   -- what is left on words after the rule's answer
   abbrev pub decided : Verdict → After
   decided denied = after (outcome m 6) l
   decided (allowed p r) = effect c m l room p r
 
-  -- after what the command found, where `rule` answers on the words of the inputs
-  unfoldable pub phased : (ℤ → ℤ → ℤ → Verdict) → Inputs → After
+  -- after what the command found, with the rule's answer to the words of its inputs
+  unfoldable pub phased : OnWords → Inputs → After
   phased rule i =
       choose (eqb (i .stop) 9) (decided (rule (i .input1) (i .input2) (i .input3))) (after (outcome m (i .stop)) l)
 
-  module _ (π : Policy) (s : State) where
-    -- the rule on words answers as the policy does, where it is asked
-    abbrev pub Rules : (ℤ → ℤ → ℤ → Verdict) → Request → Type 0
-    Rules rule (halt x) = Unit
-    Rules rule (ask l1 l2 l3 k) = rule (inputWord l1) (inputWord l2) (inputWord l3) ≡ π (keyOf c s l1 l2 l3)
+  decided-lengths : (v : Verdict) → Kept l (decided v)
+  decided-lengths denied = kept-same
+  decided-lengths (allowed p r) = effect-lengths p r m l room _ _
 
-    module _ (numbers₀ marks₀ : List ℤ) where
-      pub decide-simulates : (v : Verdict) (k : ℕ → ℕ → Outcome)
-          → ((p r : ℕ) → Simulates numbers₀ marks₀ m l (k p r) (effect c m l room p r))
-          → Simulates numbers₀ marks₀ m l (decide v k) (decided v)
-      decide-simulates denied k f = refl
-      decide-simulates (allowed p r) k f = f p r
+  pub phased-lengths : (rule : OnWords) (i : Inputs) → Kept l (phased rule i)
+  unfolding phased
+  phased-lengths rule i =
+      choose-all (Kept l) (eqb (i .stop) 9) _ _
+      (decided-lengths (rule (i .input1) (i .input2) (i .input3))) (kept-same {r = outcome m (i .stop)})
 
-      consult-simulates : (rule : ℤ → ℤ → ℤ → Verdict) (q : Request) (i : Inputs) → Rules rule q
-          → Looks c m l room numbers₀ marks₀ q i → Simulates numbers₀ marks₀ m l (consult π c s q) (phased rule i)
-      unfolding phased
-      consult-simulates rule (halt x) i e f = rw (f, stop-goes x)
-      consult-simulates rule (ask l1 l2 l3 k) i e (f, g) = rw (f, e) (decide-simulates (π (keyOf c s l1 l2 l3)) k g)
+  pub decide-simulates : (numbers₀ marks₀ : List ℤ) (v : Verdict) (k : ℕ → ℕ → Outcome)
+      → ((p r : ℕ) → Simulates numbers₀ marks₀ m l (k p r) (effect c m l room p r))
+      → Simulates numbers₀ marks₀ m l (decide v k) (decided v)
+  decide-simulates numbers₀ marks₀ denied k f = refl
+  decide-simulates numbers₀ marks₀ (allowed p r) k f = f p r
 
-      pub execute-simulates : (rule : ℤ → ℤ → ℤ → Verdict) (i : Inputs) → Rules rule (request room c s)
-          → Looks c m l room numbers₀ marks₀ (request room c s) i
-          → Simulates numbers₀ marks₀ m l (execute π room c s) (phased rule i)
-      unfolding execute
-      execute-simulates rule i e f = consult-simulates rule (request room c s) i e f
+  module _ (π : Policy) (s : State) (numbers₀ marks₀ : List ℤ) where
+    consult-simulates : (rule : OnWords) (q : Request) (i : Inputs) → Rules π c s rule q
+        → Looks c m l room numbers₀ marks₀ q i → Simulates numbers₀ marks₀ m l (consult π c s q) (phased rule i)
+    unfolding phased
+    consult-simulates rule (halt x) i e f = rw (f, stop-goes x)
+    consult-simulates rule (ask l1 l2 l3 k) i e (f, g) = rw (f, e) (decide-simulates numbers₀ marks₀ (π (keyOf c s l1 l2 l3)) k g)
+
+    pub execute-simulates : (rule : OnWords) (i : Inputs) → Rules π c s rule (request room c s)
+        → Looks c m l room numbers₀ marks₀ (request room c s) i
+        → Simulates numbers₀ marks₀ m l (execute π room c s) (phased rule i)
+    unfolding execute
+    execute-simulates rule i e f = consult-simulates rule (request room c s) i e f
