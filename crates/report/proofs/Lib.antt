@@ -2,3 +2,5 @@ pub mod Fields
 pub mod Reading
 pub mod Texts
 pub mod Printing
+pub mod Paging
+pub mod Pages

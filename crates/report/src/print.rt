@@ -1,9 +1,10 @@
 // The text of a page, written from a position on into a space that has room for it. Read specs/Lines.antt first.
 use label::Label;
+use plain::start::smaller;
 use program::Refusal;
 use word::text::Put;
 ghost use mathlib.Core.Path.{_≡_};
-ghost use Prim.Native.Nat.{_+_, _*_, _≤_, min};
+ghost use Prim.Native.Nat.{_+_, _*_, _≤_};
 ghost use lib.ListN.{length, take};
 ghost use Rattle.word.specs.Text.{natural, decimal, hexadecimal};
 ghost use Rattle.report.specs.Lines.{jobText, refusedText, lineText, shownText, linesOf, linesText};
@@ -95,12 +96,6 @@ fn shown(n: i64, label: Label, reader: Label, out: &mut [u8], at: usize) -> usiz
     } else {
         at
     }
-}
-
-fn smaller(a: usize, b: usize) -> usize
-    ensures { λ r. ⌜ r ≡ min a b ⌝ }
-{
-    if a < b { a } else { b }
 }
 
 // The first lines of an output space, those whose label flows to the reader's set.
