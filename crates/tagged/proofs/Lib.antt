@@ -1,5 +1,6 @@
 pub mod Asked
 pub mod Rules
+pub mod Seven
 pub mod Steps
 pub mod Faults
 pub mod Refines
@@ -7,4 +8,7 @@ pub mod Ruled
 pub mod Simulate
 pub mod Tags
 pub mod Whole
+pub mod Starting
 pub mod Accepted
+pub mod Acting
+pub mod Going

@@ -9,17 +9,16 @@ use lib.IntN.{ℤ, pos, negsuc}
 use lib.ListN.{length}
 use borrow.Author.Tests.{eqb-true, eq-eqb}
 use Rattle.program.specs.Command.{codeOf}
-use Rattle.machine.specs.Rule.{Input, present, missing, Key, Verdict, denied, allowed}
+use Rattle.machine.specs.Rule.{inputWord, Key, Verdict, denied, allowed}
 use Rattle.step.proofs.Link.Stack.{lowLabel-id}
 use Rattle.policy.specs.Expression.{Table}
 use Rattle.policy.specs.Evaluate.{evaluate}
 use Rattle.policy.specs.Write.{TableWritable}
-use Rattle.policy.specs.Row.{acceptedRow, word, inputWord, keyRow, WellMarked}
+use Rattle.policy.specs.Row.{acceptedRow, word, keyRow, WellMarked}
 use Rattle.policy.proofs.Hits.{accepted-hit, hit-accepted}
 use Rattle.handler.specs.Kernel.{Result, handle}
 use Rattle.handler.specs.Translate.{translate}
 use Rattle.handler.specs.Row.{row, faultRow}
-use Rattle.handler.specs.Row as Handler
 use Rattle.handler.specs.Claim.{outcomeOf, rowOf, Handled}
 use Rattle.handler.proofs.Handler.{handler-run}
 use Rattle.tagged.specs.Consult.{fiveOf, sameWord, matches, ruled, again, faulted, consultIf, consult}
@@ -39,7 +38,7 @@ words-shift : (i n : ℕ) (w : ℤ) (ws : List ℤ) → wordsFrom (suc i) n (w �
 words-shift i zero w ws = refl
 words-shift i (suc n) w ws = ap (λ (x : List ℤ). word ws i ∷ x) (words-shift (suc i) n w ws)
 
-words-all : (n : ℕ) (ws : List ℤ) → length ws ≡ n → ws ≡ wordsFrom 0 n ws
+pub words-all : (n : ℕ) (ws : List ℤ) → length ws ≡ n → ws ≡ wordsFrom 0 n ws
 words-all zero [] e = refl
 words-all zero (w ∷ ws) e = absurd (omega arith)
 words-all (suc n) [] e = absurd (omega arith)
@@ -49,13 +48,13 @@ words-all (suc n) (w ∷ ws) e = ap (λ (x : List ℤ). w ∷ x) (words-all n ws
 -- Matching
 -- ════════════════════════════════════════════════════════════════════════════════════════════
 
-same-word : (a b : ℤ) → sameWord a b ≡ true → b ≡ a
+pub same-word : (a b : ℤ) → sameWord a b ≡ true → b ≡ a
 same-word (pos a) (pos b) e = ap pos (sym (eqb-true a b e))
 same-word (pos a) (negsuc b) e = absurd (let z : _≡_ {A = ℕ} 0 1 = cc in omega arith)
 same-word (negsuc a) (pos b) e = absurd (let z : _≡_ {A = ℕ} 0 1 = cc in omega arith)
 same-word (negsuc a) (negsuc b) e = ap negsuc (sym (eqb-true a b e))
 
-word-same : (a : ℤ) → sameWord a a ≡ true
+pub word-same : (a : ℤ) → sameWord a a ≡ true
 word-same (pos a) = eq-eqb a a refl
 word-same (negsuc a) = eq-eqb a a refl
 
@@ -93,12 +92,8 @@ module _ (k : Key) where
       )
 
   -- the row of a key, as the handler and as check 7 have it
-  input-same : (i : Input) → Handler.inputWord i ≡ inputWord i
-  input-same (present l) = refl
-  input-same missing = refl
-
   row-same : (p r : ℤ) → row k p r ≡ keyRow k p r
-  row-same p r = five-same (p ∷ r ∷ []) refl refl (input-same (k .input1)) (input-same (k .input2)) (input-same (k .input3))
+  row-same p r = refl
 
 -- ════════════════════════════════════════════════════════════════════════════════════════════
 -- Consulting

@@ -5,6 +5,8 @@ use label::Label;
 use policy::row::Cache;
 ghost use mathlib.Core.Path.{_≡_};
 ghost use mathlib.Core.Bool.{true, false};
+ghost use lib.IntN.{pos};
+ghost use lib.ListN.{getD, length};
 ghost use Rattle.handler.specs.Space.{handleSpace};
 ghost use Rattle.tagged.specs.Consult.{sameWord, words, matches, missed, consult};
 ghost use Rattle.tagged.specs.Ruling.{rulingOf, ruling, ruledAgain};
@@ -20,21 +22,22 @@ pub struct Ruling {
     pub steps: u64,
 }
 
-fn same(a: i64, b: i64) -> bool
-    ensures { λ r. ⌜ r ≡ sameWord a b ⌝ }
+// Is the word at an index this one?
+fn holds(cache: Cache, i: usize, word: i64) -> bool
+    ensures { λ r. ⌜ r ≡ sameWord word (getD (cache .words) i (pos 0)) ⌝ }
 {
-    a == b
+    word == cache.get(i)
 }
 
 // Do the first five words match the command about to run?
 fn matching(cache: Cache, code: i64, pc: i64, input1: i64, input2: i64, input3: i64) -> bool
     ensures { λ r. ⌜ r ≡ matches (words code pc input1 input2 input3) (cache .words) ⌝ }
 {
-    if same(code, cache.get(0)) {
-        if same(pc, cache.get(1)) {
-            if same(input1, cache.get(2)) {
-                if same(input2, cache.get(3)) {
-                    return same(input3, cache.get(4));
+    if holds(cache, 0, code) {
+        if holds(cache, 1, pc) {
+            if holds(cache, 2, input1) {
+                if holds(cache, 3, input2) {
+                    return holds(cache, 4, input3);
                 }
             }
         }
@@ -44,6 +47,7 @@ fn matching(cache: Cache, code: i64, pc: i64, input1: i64, input2: i64, input3: 
 
 // The five words are written, and the last two become -1.
 fn miss(cache: Cache, code: i64, pc: i64, input1: i64, input2: i64, input3: i64) -> Cache
+    requires { ⌜ length (cache .words) ≡ 7 ⌝ }
     ensures { λ r. ⌜ r .words ≡ missed (words code pc input1 input2 input3) ⌝ }
 {
     let five = cache

@@ -56,7 +56,7 @@ fn act(
         (lent (now (stack .exit)) (now (values .exit)) (now (labels .exit)) (now (numbers .exit)) (now (marks .exit)))
         ≡ actOf (handleSpace (now (space .entry)) count) room word operand m
         (lent (now (stack .entry)) (now (values .entry)) (now (labels .entry)) (now (numbers .entry)) (now (marks .entry))) (cache .words) .after ⌝ }
-    ensures kept { λ r. ⌜ tag (r .cache .words) (r .faults) (r .kernel)
+    ensures adds { λ r. ⌜ tag (r .cache .words) (r .faults) (r .kernel)
         ≡ added (actOf (handleSpace (now (space .entry)) count) room word operand m
         (lent (now (stack .entry)) (now (values .entry)) (now (labels .entry)) (now (numbers .entry)) (now (marks .entry))) (cache .words) .consulted) ⌝ }
 {
@@ -121,7 +121,7 @@ fn act(
 
 fn ended(machine: Machine, stop: u64, steps: u64, faults: u64, kernel: u64, cache: Cache) -> Left
     ensures ran { λ r. ⌜ r .ran ≡ ranWith machine stop steps faults kernel ⌝ }
-    ensures kept { λ r. ⌜ r .cache .words ≡ cache .words ⌝ }
+    ensures memory { λ r. ⌜ r .cache .words ≡ cache .words ⌝ }
 {
     let ran = Ran {
         machine,

@@ -1,85 +1,96 @@
 use borrow.Author.Needs.{needs}
+use mathlib.Core.Path.{sym, ap, _∙_}
+use lib.IntN.{pos}
+use lib.ListN.{getD}
+use Rattle.word.proofs.Signed.{back}
+use Rattle.tagged.specs.Consult.{sameWord, matches}
 use Rattle.tagged.proofs.consult.matching.Statement.{statement}
 use Rattle.tagged.proofs.consult.matching.Tie as tie
 use Rattle.tagged.proofs.consult.matching.Reads as reads
 use Rattle.tagged.proofs.consult.matching.Lts as lts
-use Rattle.policy.proofs.row.Cache.get.Reads as get-reads
-use Rattle.tagged.proofs.consult.same.Reads as same-reads
+use Rattle.tagged.proofs.consult.holds.Reads as holds-reads
 
--- src/consult.rt:32:19
-get-requires : tie.Need-get-requires
-get-requires c κs = search needs
+-- src/consult.rt:36:8
+holds-requires : tie.Need-holds-requires
+holds-requires c κs = search needs
 
--- src/consult.rt:32:8
-same-requires : tie.Need-same-requires
-same-requires c κs = search needs
+-- src/consult.rt:37:12
+holds-requires-2 : tie.Need-holds-requires-2
+holds-requires-2 c κs = search needs
 
--- src/consult.rt:33:21
-get-requires-2 : tie.Need-get-requires-2
-get-requires-2 c κs = search needs
+-- src/consult.rt:38:16
+holds-requires-3 : tie.Need-holds-requires-3
+holds-requires-3 c κs = search needs
 
--- src/consult.rt:33:12
-same-requires-2 : tie.Need-same-requires-2
-same-requires-2 c κs = search needs
+-- src/consult.rt:39:20
+holds-requires-4 : tie.Need-holds-requires-4
+holds-requires-4 c κs = search needs
 
--- src/consult.rt:34:29
-get-requires-3 : tie.Need-get-requires-3
-get-requires-3 c κs = search needs
+-- src/consult.rt:40:21
+holds-requires-5 : tie.Need-holds-requires-5
+holds-requires-5 c κs = search needs
 
--- src/consult.rt:34:16
-same-requires-3 : tie.Need-same-requires-3
-same-requires-3 c κs = search needs
-
--- src/consult.rt:35:33
-get-requires-4 : tie.Need-get-requires-4
-get-requires-4 c κs = search needs
-
--- src/consult.rt:35:20
-same-requires-4 : tie.Need-same-requires-4
-same-requires-4 c κs = search needs
-
--- src/consult.rt:36:41
-get-requires-5 : tie.Need-get-requires-5
-get-requires-5 c κs = search needs
-
--- src/consult.rt:36:21
-same-requires-5 : tie.Need-same-requires-5
-same-requires-5 c κs = search needs
-
--- src/consult.rt:36:21
+-- src/consult.rt:40:21
 returns : tie.Need-returns
-returns c = ?
+unfolding matches
+returns c =
+    let s = c .before .before .before .before .before .before .before .before .before in
+    rw (
+      ap (λ z. sameWord z (getD (s .args .cache .words) 0 (pos 0))) (sym (back {z = s .args .code} (s .fits .code))) ∙ sym (c .before .before .before .before .before .before .before .before .holds .ensures) ∙ c .before .before .before .before .before .before .before .if1 .taken,
+      ap (λ z. sameWord z (getD (s .args .cache .words) 1 (pos 0))) (sym (back {z = s .args .pc} (s .fits .pc))) ∙ sym (c .before .before .before .before .before .before .holds2 .ensures) ∙ c .before .before .before .before .before .if2 .taken,
+      ap (λ z. sameWord z (getD (s .args .cache .words) 2 (pos 0))) (sym (back {z = s .args .input1} (s .fits .input1))) ∙ sym (c .before .before .before .before .holds3 .ensures) ∙ c .before .before .before .if3 .taken,
+      ap (λ z. sameWord z (getD (s .args .cache .words) 3 (pos 0))) (sym (back {z = s .args .input2} (s .fits .input2))) ∙ sym (c .before .before .holds4 .ensures) ∙ c .before .if4 .taken,
+    ) (c .holds5 .ensures ∙ ap (λ z. sameWord z (getD (s .args .cache .words) 4 (pos 0))) (back {z = s .args .input3} (s .fits .input3)))
 
--- src/consult.rt:29:1
+-- src/consult.rt:33:1
 returns-2 : tie.Need-returns-2
-returns-2 c = ?
+unfolding matches
+returns-2 c =
+    let s = c .before .before .before .before .before .before .before .before in
+    rw (
+      ap (λ z. sameWord z (getD (s .args .cache .words) 0 (pos 0))) (sym (back {z = s .args .code} (s .fits .code))) ∙ sym (c .before .before .before .before .before .before .before .holds .ensures) ∙ c .before .before .before .before .before .before .if1 .taken,
+      ap (λ z. sameWord z (getD (s .args .cache .words) 1 (pos 0))) (sym (back {z = s .args .pc} (s .fits .pc))) ∙ sym (c .before .before .before .before .before .holds2 .ensures) ∙ c .before .before .before .before .if2 .taken,
+      ap (λ z. sameWord z (getD (s .args .cache .words) 2 (pos 0))) (sym (back {z = s .args .input1} (s .fits .input1))) ∙ sym (c .before .before .before .holds3 .ensures) ∙ c .before .before .if3 .taken,
+      ap (λ z. sameWord z (getD (s .args .cache .words) 3 (pos 0))) (sym (back {z = s .args .input2} (s .fits .input2))) ∙ sym (c .before .holds4 .ensures) ∙ c .if4 .left,
+    )
 
--- src/consult.rt:29:1
+-- src/consult.rt:33:1
 returns-3 : tie.Need-returns-3
-returns-3 c = ?
+unfolding matches
+returns-3 c =
+    let s = c .before .before .before .before .before .before in
+    rw (
+      ap (λ z. sameWord z (getD (s .args .cache .words) 0 (pos 0))) (sym (back {z = s .args .code} (s .fits .code))) ∙ sym (c .before .before .before .before .before .holds .ensures) ∙ c .before .before .before .before .if1 .taken,
+      ap (λ z. sameWord z (getD (s .args .cache .words) 1 (pos 0))) (sym (back {z = s .args .pc} (s .fits .pc))) ∙ sym (c .before .before .before .holds2 .ensures) ∙ c .before .before .if2 .taken,
+      ap (λ z. sameWord z (getD (s .args .cache .words) 2 (pos 0))) (sym (back {z = s .args .input1} (s .fits .input1))) ∙ sym (c .before .holds3 .ensures) ∙ c .if3 .left,
+    )
 
--- src/consult.rt:29:1
+-- src/consult.rt:33:1
 returns-4 : tie.Need-returns-4
-returns-4 c = ?
+unfolding matches
+returns-4 c =
+    let s = c .before .before .before .before in
+    rw (
+      ap (λ z. sameWord z (getD (s .args .cache .words) 0 (pos 0))) (sym (back {z = s .args .code} (s .fits .code))) ∙ sym (c .before .before .before .holds .ensures) ∙ c .before .before .if1 .taken,
+      ap (λ z. sameWord z (getD (s .args .cache .words) 1 (pos 0))) (sym (back {z = s .args .pc} (s .fits .pc))) ∙ sym (c .before .holds2 .ensures) ∙ c .if2 .left,
+    )
 
--- src/consult.rt:29:1
+-- src/consult.rt:33:1
 returns-5 : tie.Need-returns-5
-returns-5 c = ?
+unfolding matches
+returns-5 c =
+    let s = c .before .before in
+    rw (ap (λ z. sameWord z (getD (s .args .cache .words) 0 (pos 0))) (sym (back {z = s .args .code} (s .fits .code))) ∙ sym (c .before .holds .ensures) ∙ c .if1 .left)
 
 pub matching-spec : {M : Type 1} → statement M
 matching-spec =
     tie.close
     (tie.spec
-    get-requires
-    same-requires
-    get-requires-2
-    same-requires-2
-    get-requires-3
-    same-requires-3
-    get-requires-4
-    same-requires-4
-    get-requires-5
-    same-requires-5
+    holds-requires
+    holds-requires-2
+    holds-requires-3
+    holds-requires-4
+    holds-requires-5
     returns
     returns-2
     returns-3
