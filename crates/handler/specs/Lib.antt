@@ -3,7 +3,4 @@ pub mod Translate
 pub mod Row
 pub mod Claim
 pub mod Space
-pub mod Words
 pub mod Reading
-pub mod Emit
-pub mod Translated

@@ -132,7 +132,7 @@ module _ (sheet : List ℕ) (m : Memory) (fuel : ℕ) where
         stack = leb-true _ _ (test-kept _ _ (p .1));
       }
 
-  start-fine : (d : Decoded) → decode sheet ≡ d → (cs : List Command)
+  pub start-fine : (d : Decoded) → decode sheet ≡ d → (cs : List Command)
       → startDecoded d (length (m .values)) (m .labels) (length (m .program)) (length (m .stack)) fuel ≡ accepted cs → Fine sheet m cs
   start-fine (refused r) g cs e = never (cc)
   start-fine (accepted ds) g cs e = go (startLimits (length ds) (length (m .values)) (m .labels) (length (m .program)) (length (m .stack)) fuel) refl e

@@ -95,7 +95,7 @@ module _ (sheet bytes : List ℕ) (row : List ℤ) (m : Memory) (handler : List 
         allowance = leb-true _ _ (test-kept _ _ (q .1));
       }
 
-  start-ready : (d : Decoded) (q : ReadTable) → decode sheet ≡ d → readTable bytes ≡ q
+  pub start-ready : (d : Decoded) (q : ReadTable) → decode sheet ≡ d → readTable bytes ≡ q
       → (cs : List Command) (t : Table) → decided q d ≡ accepted cs t → Ready cs t
   start-ready (Decode.refused r) q g f cs t e = never (cc)
   start-ready (Decode.accepted ds) q g f cs t e = go q f (limits q (length ds)) refl e

@@ -3,7 +3,6 @@ pub mod Rules
 pub mod Seven
 pub mod Steps
 pub mod Faults
-pub mod Refines
 pub mod Ruled
 pub mod Simulate
 pub mod Tags
@@ -12,3 +11,6 @@ pub mod Starting
 pub mod Accepted
 pub mod Acting
 pub mod Going
+pub mod Refines
+pub mod Refusals
+pub mod Both

@@ -4,11 +4,12 @@ use mathlib.Core.Path.{_≡_, refl, sym, subst, ap, _∙_, fun-ext}
 use mathlib.Core.Bool.{Bool, true, false}
 use mathlib.Core.List.{List}
 use Prim.Native.Nat.{ℕ, zero, suc}
+use native.Mathlib.Omega.{arith}
 use lib.IntN.{ℤ}
 use lib.ListN.{length}
 use Rattle.word.specs.Lay.{laid}
 use Rattle.program.specs.declared.Command.{Command}
-use Rattle.machine.specs.Rule.{Key, Verdict, denied, allowed, standard}
+use Rattle.machine.specs.Rule.{Key, Verdict, denied, allowed, Policy, standard}
 use Rattle.machine.specs.State.{State, Stop, fuelSpent}
 use Rattle.machine.specs.Step.{Outcome, stopped, stepped, Request, halt, ask, request, decide, consult, execute}
 use Rattle.machine.specs.Run.{atEnd, step, run}
@@ -26,13 +27,16 @@ use Rattle.policy.proofs.Standard.{evaluate-standard, standard-read}
 use Rattle.policy.proofs.Writable.{read-writable}
 use Rattle.handler.specs.Translate.{translate}
 use Rattle.handler.specs.Claim.{rowOf}
+use Rattle.plain.specs.Plain.{Memory, room, begin}
 use Rattle.tagged.specs.Consult.{Tag, counted}
 use Rattle.tagged.specs.Run.{Result, consulted, rules, tagRequest, tagStep, tagRun, tagStack}
-use Rattle.tagged.specs.Claim.{Fits, Leaves, Claim}
+use Rattle.tagged.specs.Tagged.{tagOf}
+use Rattle.tagged.specs.Claim.{Fits, Leaves, Agrees, Claim}
 use Rattle.tagged.proofs.Asked.{evaluate-range, Roomy, Asks, request-asks}
 use Rattle.tagged.proofs.Rules.{row-fits, consult-table}
 use Rattle.tagged.proofs.Steps.{Alike, step-alike, step-both, step-range, tag-induction}
 use Rattle.tagged.proofs.Faults.{tag-counts}
+use Rattle.tagged.proofs.Accepted.{Ready}
 
 -- ════════════════════════════════════════════════════════════════════════════════════════════
 -- One step
@@ -178,3 +182,24 @@ tag-read bytes t e = tag-agrees t (read-writable bytes t e)
 -- of the standard table: the run is that of the plain engine
 pub tag-standard : Claim standardTable standard
 tag-standard = subst (Claim standardTable) (fun-ext evaluate-standard) (tag-read standardBytes standardTable standard-read)
+
+-- ════════════════════════════════════════════════════════════════════════════════════════════
+-- An accepted start
+-- ════════════════════════════════════════════════════════════════════════════════════════════
+
+-- the run of the tag engine from a start that it accepts, with its rule memory of seven words
+pub ready-agrees : (sheet bytes : List ℕ) (row : List ℤ) (m : Memory) (handler : List ℤ) (fuel : ℕ) (cs : List Command) (t : Table)
+    → Ready sheet bytes row m handler fuel cs t → length row ≡ 7 → Agrees t (evaluate t) (room m) cs fuel (begin m) (tagOf row)
+ready-agrees sheet bytes row m handler fuel cs t ready size =
+    let range : LabelsInRange (begin m) =
+    record { pc = (tt, omega arith); stack = tt; memory = ready .fine .cells .range; lines = tt } in
+    tag-read bytes t (ready .rules) (room m) cs fuel (begin m) (tagOf row) range (record { size = size; accepted = ready .keptRow })
+
+-- under the standard table it is the run of the plain engine
+pub standard-agrees : (sheet : List ℕ) (row : List ℤ) (m : Memory) (handler : List ℤ) (fuel : ℕ) (cs : List Command) (t : Table)
+    → Ready sheet standardBytes row m handler fuel cs t → length row ≡ 7 → Agrees t standard (room m) cs fuel (begin m) (tagOf row)
+standard-agrees sheet row m handler fuel cs t ready size =
+    let read = sym (ready .rules) ∙ standard-read in
+    let is : t ≡ standardTable = cc in
+    subst (λ (π : Policy). Agrees t π (room m) cs fuel (begin m) (tagOf row)) (ap evaluate is ∙ fun-ext evaluate-standard)
+    (ready-agrees sheet standardBytes row m handler fuel cs t ready size)

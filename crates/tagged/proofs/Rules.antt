@@ -18,7 +18,7 @@ use Rattle.policy.specs.Row.{acceptedRow, word, keyRow, WellMarked}
 use Rattle.policy.proofs.Hits.{accepted-hit, hit-accepted}
 use Rattle.handler.specs.Kernel.{Result, handle}
 use Rattle.handler.specs.Translate.{translate}
-use Rattle.handler.specs.Row.{row, faultRow}
+use Rattle.handler.specs.Row.{faultRow}
 use Rattle.handler.specs.Claim.{outcomeOf, rowOf, Handled}
 use Rattle.handler.proofs.Handler.{handler-run}
 use Rattle.tagged.specs.Consult.{fiveOf, sameWord, matches, ruled, again, faulted, consultIf, consult}
@@ -91,10 +91,6 @@ module _ (k : Key) where
         word-same (inputWord (k .input3)),
       )
 
-  -- the row of a key, as the handler and as check 7 have it
-  row-same : (p r : ℤ) → row k p r ≡ keyRow k p r
-  row-same p r = refl
-
 -- ════════════════════════════════════════════════════════════════════════════════════════════
 -- Consulting
 -- ════════════════════════════════════════════════════════════════════════════════════════════
@@ -110,7 +106,7 @@ module _ (t : Table) (k : Key) (m : WellMarked k) where
   pub row-fits : (p r : ℕ) → evaluate t k ≡ allowed p r → Fits t (rowOf k (allowed p r))
   row-fits p r e =
       let (hp, hr) = evaluate-range t k p r (marked-has m) e in
-      record { size = refl; accepted = ap (acceptedRow t) (row-same k (pos p) (pos r)) ∙ hit-accepted t k p r m hp hr e }
+      record { size = refl; accepted = hit-accepted t k p r m hp hr e }
 
   -- the five words match
   hit : (ws : List ℤ) → Fits t ws → matches (fiveOf k) ws ≡ true
@@ -121,7 +117,7 @@ module _ (t : Table) (k : Key) (m : WellMarked k) where
       let is : ws ≡ keyRow k (pos (g .place)) (pos (g .result)) = same ∙ words (g .place-is) (g .result-is) in
       record {
         verdict = ap ruled is ∙ row-ruled (g .place) (g .result) (g .verdict) ∙ sym (g .verdict);
-        row = is ∙ sym (row-same k (pos (g .place)) (pos (g .result))) ∙ ap (rowOf k) (sym (g .verdict));
+        row = is ∙ ap (rowOf k) (sym (g .verdict));
         counts = rw e (refl, refl, refl);
       }
     where
@@ -131,14 +127,12 @@ module _ (t : Table) (k : Key) (m : WellMarked k) where
   -- after the handler the row matches again, or the command is not allowed
   again-is : (v : Verdict) → evaluate t k ≡ v → again (fiveOf k) (outcomeOf v) (rowOf k v) ≡ v
   again-is denied e = refl
-  again-is (allowed p r) e =
-      ap (again (fiveOf k) (outcomeOf (allowed p r))) (row-same k (pos p) (pos r))
-      ∙ rw (row-matches k (pos p) (pos r)) (row-ruled p r e)
+  again-is (allowed p r) e = rw (row-matches k (pos p) (pos r)) (row-ruled p r e)
 
   module _ (well : TableWritable t) where
     -- they do not match, and the handler runs
     miss : (ws : List ℤ) → matches (fiveOf k) ws ≡ false → Ruled t k ws (consultIf false (handle (translate t)) (fiveOf k) ws)
-    miss ws e = rw (sym (row-same k (negsuc 0) (negsuc 0))) (handled (handle (translate t) (faultRow k)) refl)
+    miss ws e = handled (handle (translate t) (faultRow k)) refl
       where
         handled : (x : Result) → handle (translate t) (faultRow k) ≡ x → Ruled t k ws (faulted (fiveOf k) x)
         handled x d =

@@ -2,22 +2,26 @@
 -- Assumes nothing.
 use mathlib.Core.Path.{_≡_, refl, sym, ap, ap₂, _∙_}
 use mathlib.Core.List.{List}
-use Prim.Native.Nat.{ℕ, _*_, _/_}
+use Prim.Native.Nat.{ℕ, _*_, _/_, _≤_}
 use native.Mathlib.Omega.{arith}
 use lib.IntN.{ℤ}
 use lib.ListN.{length}
 use lib.Dec.{leb}
 use borrow.Author.Tests.{le-leb}
+use Rattle.word.specs.Lay.{laid}
 use Rattle.program.specs.declared.Command.{Command}
 use Rattle.program.specs.declared.Refusal.{Refusal}
 use Rattle.program.specs.declared.Checked.the-variants as Checked
 use Rattle.program.specs.Decode.{Decoded, refusal, checkAnswer}
 use Rattle.program.specs.Decode as Decode
 use Rattle.policy.specs.declared.Checked.the-variants as Answer
+use Rattle.policy.specs.Expression.{Table}
 use Rattle.policy.specs.Read.{ReadTable, table}
 use Rattle.policy.specs.Read as Read
 use Rattle.policy.specs.Ask as Ask
-use Rattle.handler.specs.Translated.{handlerCount}
+use Rattle.handler.specs.Space.{kernelWords}
+use Rattle.handler.specs.Translate.{translate}
+use Rattle.handler.specs.Translated.{handlerCount, Translation, translateOf}
 use Rattle.plain.specs.declared.start.Limit.{Limit}
 use Rattle.plain.specs.declared.start.Limit.the-variants.{Broken, Kept}
 use Rattle.plain.specs.Start.{keptIf, orElse, cellsLimit, labelsLimit, spaceLimit, fuelLimit}
@@ -61,11 +65,10 @@ module _ (q : ReadTable) (row : List ℤ) (values : ℕ) (labels : List ℤ) (pr
             × (n ≡ length cs)
         go (Decode.refused s) e = never (cc)
         go (Decode.accepted cs) e =
-            let k : n ≡ length cs = cc in
-            (
+            let k : n ≡ length cs = cc in (
               cs,
               ap (λ x. startAnswer (within x cs q))
-              (ap (λ n. startLimits q row n values labels program stack handler fuel) (sym k) ∙ l),
+                  (ap (λ n. startLimits q row n values labels program stack handler fuel) (sym k) ∙ l),
               k,
             )
 
@@ -92,3 +95,11 @@ module _ (q : ReadTable) (row : List ℤ) (values : ℕ) (labels : List ℤ) (pr
     start-kept l =
         let a = limited Kept l in
         ap Checked.Accepted (a .2) ∙ sym (accepted-table q (a .0) (rules-are l)) ∙ sym (a .1)
+
+-- a handler that fits is laid in its space
+pub translated-space : (q : ReadTable) (t : Table) (space : List ℤ) → q ≡ table t → 2 * length (translate t) ≤ length space
+    → translateOf q space .space ≡ laid (kernelWords (translate t)) space
+translated-space q t space e h = rw (e, le-leb (2 * length (translate t)) (length space) h)
+
+pub translated-count : (q : ReadTable) (t : Table) (n : ℕ) → q ≡ table t → n ≡ handlerCount q → n ≡ length (translate t)
+translated-count q t n e h = h ∙ ap handlerCount e

@@ -5,3 +5,5 @@ pub mod Claim
 pub mod Start
 pub mod Loop
 pub mod Tagged
+pub mod Refusals
+pub mod Both

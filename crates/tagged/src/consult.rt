@@ -1,6 +1,6 @@
 // The rule memory in front of the handler. Read specs/Consult.antt first.
-use handler::kernel::Outcome;
-use handler::kernel::handle;
+use kernel::Outcome;
+use kernel::handle;
 use label::Label;
 use policy::row::Cache;
 ghost use mathlib.Core.Path.{_≡_};

@@ -4,11 +4,11 @@ mod consult;
 mod run;
 mod start;
 
-use handler::translate::translate;
 use policy::row::Cache;
 use program::Checked;
 use program::Refusal;
 pub use run::Ran;
+use translator::translate;
 ghost use mathlib.Core.Path.{_≡_};
 ghost use Rattle.plain.specs.Plain.{memory};
 ghost use Rattle.tagged.specs.Tagged.{ended, tagged};
@@ -66,7 +66,7 @@ pub fn execute(
         Checked::Accepted(count) => {
             program::load(sheet, program);
             translate(table, handler);
-            let size = handler::translate::count(table);
+            let size = translator::count(table);
             let room = plain::start::smaller(numbers.len(), marks.len());
             let left = run::go(
                 count,

@@ -31,7 +31,7 @@ fn row(table: &[u8], cache: Cache) -> Limit
 fn handler(table: &[u8], words: usize) -> Limit
     ensures { λ r. ⌜ r ≡ handlerLimit (readTable (now (table .entry))) words ⌝ }
 {
-    let count = handler::translate::count(table);
+    let count = translator::count(table);
     kept_if(count <= words / 2, 8, 3)
 }
 

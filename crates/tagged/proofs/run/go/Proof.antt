@@ -181,7 +181,7 @@ same-length-5 : tie.Need-same-length-5 Inv-loop μ-loop
 same-length-5 c = let a = c .before .before .before .before .before .before .before .before .before .before .before in same a .marks ∙ head a .loop .inv .same .marks
 
 returns : tie.Need-returns Inv-loop μ-loop
-returns c = 
+returns c =
     let a = c .before .before .before .before .before .before .before .before .before .before .before in
     ap₂ (λ r w. doneOf r w (last a)) (c .ended .ensures .0) (c .ended .ensures .1)
     ∙ going-stopped _ _ _ _ _ _ _ _ _ _ _ _ (head a .loop .inv) (taken a) _ (place a) _ _ _ (adds a) (did a) (added-is a) (c .before .if1 .taken)
@@ -193,7 +193,7 @@ loop-less : tie.Need-loop-less Inv-loop μ-loop
 loop-less c = let a = c .before .before .before .before .before .before .before .before .before .before in omega (arith, taken a)
 
 loop-again : tie.Need-loop-again Inv-loop μ-loop
-loop-again c = 
+loop-again c =
     let a = c .before .before .before .before .before .before .before .before .before .before in
     going-on _ _ _ _ _ _ _ _ _ _ _ _ (head a .loop .inv) (taken a) _ (place a) _ _ _ (adds a) (did a) (added-is a) (c .if1 .left) (same a) (few a)
 
@@ -222,7 +222,7 @@ same-length-10 : tie.Need-same-length-10 Inv-loop μ-loop
 same-length-10 c = c .before .before .before .before .before .before .loop .inv .same .marks
 
 returns-2 : tie.Need-returns-2 Inv-loop μ-loop
-returns-2 c = 
+returns-2 c =
     let l = c .before .before .before .before .before .before in
     ap₂ (λ r w. doneOf r w (runs l)) (c .ended2 .ensures .0 ∙ ap (λ n. ranWith (l .loop .m) n (l .loop .steps) (l .loop .faults) (l .loop .kernel)) (c .before .end-or .ensures)) (c .ended2 .ensures .1)
     ∙ going-outside _ _ _ _ _ _ _ _ _ _ _ _ (l .loop .inv) (c .before .before .before .before .before .loop-test .taken)
@@ -250,7 +250,7 @@ same-length-15 : tie.Need-same-length-15 Inv-loop μ-loop
 same-length-15 c = c .before .before .before .loop .inv .same .marks
 
 returns-3 : tie.Need-returns-3 Inv-loop μ-loop
-returns-3 c = 
+returns-3 c =
     let l = c .before .before .before in
     ap₂ (λ r w. doneOf r w (runs l)) (c .ended3 .ensures .0 ∙ ap (λ n. ranWith (l .loop .m) n (l .loop .steps) (l .loop .faults) (l .loop .kernel)) (c .before .end-or2 .ensures)) (c .ended3 .ensures .1)
     ∙ going-end _ _ _ _ _ _ _ _ _ _ _ _ (l .loop .inv) (c .before .before .loop-test .left)
