@@ -21,7 +21,7 @@ use Rattle.policy.specs.Read as Read
 use Rattle.policy.specs.Ask as Ask
 use Rattle.handler.specs.Space.{kernelWords}
 use Rattle.handler.specs.Translate.{translate}
-use Rattle.handler.specs.Translated.{handlerCount, Translation, translateOf}
+use Rattle.translator.specs.Translated.{handlerCount, Translation, translateOf}
 use Rattle.plain.specs.declared.start.Limit.{Limit}
 use Rattle.plain.specs.declared.start.Limit.the-variants.{Broken, Kept}
 use Rattle.plain.specs.Start.{keptIf, orElse, cellsLimit, labelsLimit, spaceLimit, fuelLimit}

@@ -15,7 +15,7 @@ use Rattle.step.specs.Words.{started}
 use Rattle.step.specs.Lent.{Lent, lent}
 use Rattle.handler.specs.Space.{handleSpace}
 use Rattle.handler.specs.Translate.{translate}
-use Rattle.handler.specs.Translated.{Translation}
+use Rattle.translator.specs.Translated.{Translation}
 use Rattle.plain.specs.Plain.{Memory, memory}
 use Rattle.tagged.specs.Start.{startOf, startAnswer}
 use Rattle.tagged.specs.Loop.{doneOf, loopOf}

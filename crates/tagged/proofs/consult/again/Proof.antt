@@ -6,21 +6,13 @@ use Rattle.tagged.specs.Ruling.{ruling}
 use Rattle.tagged.proofs.Seven.{five-back}
 use Rattle.tagged.proofs.consult.again.Statement.{statement}
 use Rattle.tagged.proofs.consult.again.Tie as tie
-use Rattle.tagged.proofs.consult.again.Reads as reads
-use Rattle.tagged.proofs.consult.again.Lts as lts
-use Rattle.tagged.proofs.consult.deny.Reads as deny-reads
-use Rattle.tagged.proofs.consult.hit.Reads as hit-reads
-use Rattle.tagged.proofs.consult.matching.Reads as matching-reads
 
--- src/consult.rt:99:8
 matching-requires : tie.Need-matching-requires
 matching-requires c κs = search needs
 
--- src/consult.rt:100:9
 hit-requires : tie.Need-hit-requires
 hit-requires c κs = search needs
 
--- src/consult.rt:100:9
 returns : tie.Need-returns
 returns c =
     let s = c .before .before .before in
@@ -29,11 +21,9 @@ returns c =
     let e = ap (λ (f : Five). matches f row) (sym five) ∙ sym (c .before .before .matching .ensures) ∙ c .before .if1 .taken in
     c .hit .ensures ∙ ap (λ (b : Bool). ruling b row 1 (s .args .steps)) (sym e)
 
--- src/consult.rt:102:5
 deny-requires : tie.Need-deny-requires
 deny-requires c κs = search needs
 
--- src/consult.rt:88:1
 returns-2 : tie.Need-returns-2
 returns-2 c =
     let s = c .before .before .before in

@@ -2,30 +2,19 @@ use borrow.Author.Needs.{needs}
 use mathlib.Core.Path.{sym, ap, _∙_}
 use denote.Ref.{now}
 use Rattle.handler.specs.Space.{handleSpace}
-use Rattle.handler.specs.Words.{outcomeOf, resultOf}
+use Rattle.kernel.specs.Words.{outcomeOf, resultOf}
 use Rattle.tagged.specs.Consult.{Five, matches, missed}
 use Rattle.tagged.specs.Ruling.{ruledAgain}
 use Rattle.tagged.proofs.Seven.{five-back, consult-hit, consult-missed, again-faulted, denied-faulted, failed-faulted}
 use Rattle.tagged.proofs.consult.consult.Statement.{statement}
 use Rattle.tagged.proofs.consult.consult.Tie as tie
-use Rattle.tagged.proofs.consult.consult.Reads as reads
-use Rattle.tagged.proofs.consult.consult.Lts as lts
-use Rattle.handler.proofs.kernel.handle.Reads as handle-reads
-use Rattle.tagged.proofs.consult.again.Reads as again-reads
-use Rattle.tagged.proofs.consult.deny.Reads as deny-reads
-use Rattle.tagged.proofs.consult.hit.Reads as hit-reads
-use Rattle.tagged.proofs.consult.matching.Reads as matching-reads
-use Rattle.tagged.proofs.consult.miss.Reads as miss-reads
 
--- src/consult.rt:118:8
 matching-requires : tie.Need-matching-requires
 matching-requires c κs = search needs
 
--- src/consult.rt:119:9
 hit-requires : tie.Need-hit-requires
 hit-requires c κs = search needs
 
--- src/consult.rt:119:9
 returns : tie.Need-returns
 returns c =
     let s = c .before .before .before in
@@ -34,39 +23,30 @@ returns c =
     let e = ap (λ (f : Five). matches f row) (sym five) ∙ sym (c .before .before .matching .ensures) ∙ c .before .if1 .taken in
     c .hit .ensures ∙ consult-hit _ _ row e
 
--- src/consult.rt:121:40
 miss-requires : tie.Need-miss-requires
 miss-requires c κs = search needs
 
--- src/consult.rt:121:9
 handle-requires : tie.Need-handle-requires
 handle-requires c κs = search needs
 
--- src/consult.rt:126:30
 enum-told : tie.Need-enum-told
 enum-told c = search needs
 
--- src/consult.rt:126:30
 again-requires : tie.Need-again-requires
 again-requires c κs = search needs
 
--- src/consult.rt:127:28
 enum-told-2 : tie.Need-enum-told-2
 enum-told-2 c = search needs
 
--- src/consult.rt:127:28
 deny-requires : tie.Need-deny-requires
 deny-requires c κs = search needs
 
--- src/consult.rt:128:28
 enum-told-3 : tie.Need-enum-told-3
 enum-told-3 c = search needs
 
--- src/consult.rt:128:28
 deny-requires-2 : tie.Need-deny-requires-2
 deny-requires-2 c κs = search needs
 
--- src/consult.rt:106:1
 returns-2 : tie.Need-returns-2
 returns-2 c =
     let s = c .before .before .before .before .before .before .before .before in
@@ -81,7 +61,6 @@ returns-2 c =
     ∙ consult-missed _ _ row e (resultOf (ran .result))
     (ran .ensures ∙ ap (handleSpace (now (s .args .space)) (s .args .count)) (c .before .before .before .before .before .miss .ensures ∙ ap missed five))
 
--- src/consult.rt:106:1
 returns-3 : tie.Need-returns-3
 returns-3 c =
     let s = c .before .before .before .before .before .before .before .before in
@@ -96,7 +75,6 @@ returns-3 c =
     ∙ consult-missed _ _ row e (resultOf (ran .result))
     (ran .ensures ∙ ap (handleSpace (now (s .args .space)) (s .args .count)) (c .before .before .before .before .before .miss .ensures ∙ ap missed five))
 
--- src/consult.rt:106:1
 returns-4 : tie.Need-returns-4
 returns-4 c =
     let s = c .before .before .before .before .before .before .before .before in

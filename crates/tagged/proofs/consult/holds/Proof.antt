@@ -4,15 +4,10 @@ use Rattle.tagged.specs.Consult.{sameWord}
 use Rattle.tagged.proofs.Seven.{same-test}
 use Rattle.tagged.proofs.consult.holds.Statement.{statement}
 use Rattle.tagged.proofs.consult.holds.Tie as tie
-use Rattle.tagged.proofs.consult.holds.Reads as reads
-use Rattle.tagged.proofs.consult.holds.Lts as lts
-use Rattle.policy.proofs.row.Cache.get.Reads as get-reads
 
--- src/consult.rt:29:13
 get-requires : tie.Need-get-requires
 get-requires c κs = search needs
 
--- src/consult.rt:26:1
 returns : tie.Need-returns
 returns c =
     let s = c .before in

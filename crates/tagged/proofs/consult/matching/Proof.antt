@@ -6,31 +6,22 @@ use Rattle.word.proofs.Signed.{back}
 use Rattle.tagged.specs.Consult.{sameWord, matches}
 use Rattle.tagged.proofs.consult.matching.Statement.{statement}
 use Rattle.tagged.proofs.consult.matching.Tie as tie
-use Rattle.tagged.proofs.consult.matching.Reads as reads
-use Rattle.tagged.proofs.consult.matching.Lts as lts
-use Rattle.tagged.proofs.consult.holds.Reads as holds-reads
 
--- src/consult.rt:36:8
 holds-requires : tie.Need-holds-requires
 holds-requires c κs = search needs
 
--- src/consult.rt:37:12
 holds-requires-2 : tie.Need-holds-requires-2
 holds-requires-2 c κs = search needs
 
--- src/consult.rt:38:16
 holds-requires-3 : tie.Need-holds-requires-3
 holds-requires-3 c κs = search needs
 
--- src/consult.rt:39:20
 holds-requires-4 : tie.Need-holds-requires-4
 holds-requires-4 c κs = search needs
 
--- src/consult.rt:40:21
 holds-requires-5 : tie.Need-holds-requires-5
 holds-requires-5 c κs = search needs
 
--- src/consult.rt:40:21
 returns : tie.Need-returns
 unfolding matches
 returns c =
@@ -42,7 +33,6 @@ returns c =
       ap (λ z. sameWord z (getD (s .args .cache .words) 3 (pos 0))) (sym (back {z = s .args .input2} (s .fits .input2))) ∙ sym (c .before .before .holds4 .ensures) ∙ c .before .if4 .taken,
     ) (c .holds5 .ensures ∙ ap (λ z. sameWord z (getD (s .args .cache .words) 4 (pos 0))) (back {z = s .args .input3} (s .fits .input3)))
 
--- src/consult.rt:33:1
 returns-2 : tie.Need-returns-2
 unfolding matches
 returns-2 c =
@@ -54,7 +44,6 @@ returns-2 c =
       ap (λ z. sameWord z (getD (s .args .cache .words) 3 (pos 0))) (sym (back {z = s .args .input2} (s .fits .input2))) ∙ sym (c .before .holds4 .ensures) ∙ c .if4 .left,
     )
 
--- src/consult.rt:33:1
 returns-3 : tie.Need-returns-3
 unfolding matches
 returns-3 c =
@@ -65,7 +54,6 @@ returns-3 c =
       ap (λ z. sameWord z (getD (s .args .cache .words) 2 (pos 0))) (sym (back {z = s .args .input1} (s .fits .input1))) ∙ sym (c .before .holds3 .ensures) ∙ c .if3 .left,
     )
 
--- src/consult.rt:33:1
 returns-4 : tie.Need-returns-4
 unfolding matches
 returns-4 c =
@@ -75,7 +63,6 @@ returns-4 c =
       ap (λ z. sameWord z (getD (s .args .cache .words) 1 (pos 0))) (sym (back {z = s .args .pc} (s .fits .pc))) ∙ sym (c .before .holds2 .ensures) ∙ c .if2 .left,
     )
 
--- src/consult.rt:33:1
 returns-5 : tie.Need-returns-5
 unfolding matches
 returns-5 c =

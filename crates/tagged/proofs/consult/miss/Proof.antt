@@ -5,39 +5,28 @@ use Rattle.word.proofs.Signed.{back}
 use Rattle.tagged.proofs.Seven.{seven-written}
 use Rattle.tagged.proofs.consult.miss.Statement.{statement}
 use Rattle.tagged.proofs.consult.miss.Tie as tie
-use Rattle.tagged.proofs.consult.miss.Reads as reads
-use Rattle.tagged.proofs.consult.miss.Lts as lts
-use Rattle.policy.proofs.row.Cache.set.Reads as set-reads
 
--- src/consult.rt:48:16
 set-requires : tie.Need-set-requires
 set-requires c κs = search needs
 
--- src/consult.rt:48:16
 set-requires-2 : tie.Need-set-requires-2
 set-requires-2 c κs = search needs
 
--- src/consult.rt:48:16
 set-requires-3 : tie.Need-set-requires-3
 set-requires-3 c κs = search needs
 
--- src/consult.rt:48:16
 set-requires-4 : tie.Need-set-requires-4
 set-requires-4 c κs = search needs
 
--- src/consult.rt:48:9
 set-requires-5 : tie.Need-set-requires-5
 set-requires-5 c κs = search needs
 
--- src/consult.rt:54:5
 set-requires-6 : tie.Need-set-requires-6
 set-requires-6 c κs = search needs
 
--- src/consult.rt:54:5
 set-requires-7 : tie.Need-set-requires-7
 set-requires-7 c κs = search needs
 
--- src/consult.rt:45:1
 returns : tie.Need-returns
 returns c =
     let s = c .before .before .before .before .before .before .before in

@@ -7,36 +7,25 @@ use Rattle.tagged.specs.Start.{startOf}
 use Rattle.tagged.proofs.Starting.{start-refused, start-broken, start-kept}
 use Rattle.tagged.proofs.start.check.Statement.{statement}
 use Rattle.tagged.proofs.start.check.Tie as tie
-use Rattle.tagged.proofs.start.check.Reads as reads
-use Rattle.tagged.proofs.start.check.Lts as lts
-use Rattle.program.proofs.check.Reads as check-reads
-use Rattle.tagged.proofs.start.limits.Reads as limits-reads
 
--- src/start.rt:77:9
 check-requires : tie.Need-check-requires
 check-requires c κs = search needs
 
--- src/start.rt:79:26
 enum-known-sheet-answer : tie.Need-enum-known-sheet-answer
 enum-known-sheet-answer c = search needs
 
--- src/start.rt:80:27
 enum-known-sheet-answer-2 : tie.Need-enum-known-sheet-answer-2
 enum-known-sheet-answer-2 c = search needs
 
--- src/start.rt:81:17
 limits-requires : tie.Need-limits-requires
 limits-requires c κs = search needs
 
--- src/start.rt:93:31
 enum-known-limit : tie.Need-enum-known-limit
 enum-known-limit c = search needs
 
--- src/start.rt:94:32
 enum-told : tie.Need-enum-told
 enum-told c = search needs
 
--- src/start.rt:64:1
 returns : tie.Need-returns
 unfolding startOf
 returns c =
@@ -44,7 +33,6 @@ returns c =
     start-refused (readTable (now (a .table))) (a .cache .words) (a .values) (now (a .labels)) (a .program) (a .stack) (a .words) (a .fuel) (decode (now (a .sheet))) (c .before .sheet-answer .given .0 .0)
     (sym (c .before .sheet-answer .given .1) ∙ c .before .before .before .check .ensures)
 
--- src/start.rt:64:1
 returns-2 : tie.Need-returns-2
 unfolding startOf
 returns-2 c =
@@ -55,7 +43,6 @@ returns-2 c =
     (sheet .sheet-answer2 .given .0 .0) (sym (sheet .sheet-answer2 .given .1) ∙ sheet .before .before .check .ensures)
     (c .before .limit .given .0 .0) (sym (l .limits .ensures) ∙ c .before .limit .given .1)
 
--- src/start.rt:64:1
 returns-3 : tie.Need-returns-3
 unfolding startOf
 returns-3 c =

@@ -5,20 +5,13 @@ use Rattle.policy.specs.Read.{readTable}
 use Rattle.tagged.proofs.Starting.{handler-limit}
 use Rattle.tagged.proofs.start.handler.Statement.{statement}
 use Rattle.tagged.proofs.start.handler.Tie as tie
-use Rattle.tagged.proofs.start.handler.Reads as reads
-use Rattle.tagged.proofs.start.handler.Lts as lts
-use Rattle.handler.proofs.translate.count.Reads as count-reads
-use Rattle.plain.proofs.start.kept_if.Reads as kept-if-reads
 
--- src/start.rt:34:9
 count-requires : tie.Need-count-requires
 count-requires c κs = search needs
 
--- src/start.rt:35:5
 kept-if-requires : tie.Need-kept-if-requires
 kept-if-requires c κs = search needs
 
--- src/start.rt:31:1
 returns : tie.Need-returns
 returns c =
     let s = c .before .before .before in

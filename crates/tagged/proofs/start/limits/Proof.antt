@@ -4,70 +4,46 @@ use Rattle.plain.specs.Start.{orElse}
 use Rattle.tagged.specs.Start.{startLimits}
 use Rattle.tagged.proofs.start.limits.Statement.{statement}
 use Rattle.tagged.proofs.start.limits.Tie as tie
-use Rattle.tagged.proofs.start.limits.Reads as reads
-use Rattle.tagged.proofs.start.limits.Lts as lts
-use Rattle.plain.proofs.start.allowance.Reads as allowance-reads
-use Rattle.plain.proofs.start.cells.Reads as cells-reads
-use Rattle.plain.proofs.start.label_words.Reads as label-words-reads
-use Rattle.plain.proofs.start.or_else.Reads as or-else-reads
-use Rattle.plain.proofs.start.space.Reads as space-reads
-use Rattle.tagged.proofs.start.handler.Reads as handler-reads
-use Rattle.tagged.proofs.start.row.Reads as row-reads
-use Rattle.tagged.proofs.start.rules.Reads as rules-reads
 
--- src/start.rt:53:9
 space-requires : tie.Need-space-requires
 space-requires c κs = search needs
 
--- src/start.rt:54:17
 handler-requires : tie.Need-handler-requires
 handler-requires c κs = search needs
 
--- src/start.rt:54:40
 allowance-requires : tie.Need-allowance-requires
 allowance-requires c κs = search needs
 
--- src/start.rt:54:9
 or-else-requires : tie.Need-or-else-requires
 or-else-requires c κs = search needs
 
--- src/start.rt:52:9
 or-else-requires-2 : tie.Need-or-else-requires-2
 or-else-requires-2 c κs = search needs
 
--- src/start.rt:56:26
 rules-requires : tie.Need-rules-requires
 rules-requires c κs = search needs
 
--- src/start.rt:56:48
 row-requires : tie.Need-row-requires
 row-requires c κs = search needs
 
--- src/start.rt:56:40
 or-else-requires-3 : tie.Need-or-else-requires-3
 or-else-requires-3 c κs = search needs
 
--- src/start.rt:56:9
 or-else-requires-4 : tie.Need-or-else-requires-4
 or-else-requires-4 c κs = search needs
 
--- src/start.rt:58:9
 cells-requires : tie.Need-cells-requires
 cells-requires c κs = search needs
 
--- src/start.rt:59:17
 label-words-requires : tie.Need-label-words-requires
 label-words-requires c κs = search needs
 
--- src/start.rt:59:9
 or-else-requires-5 : tie.Need-or-else-requires-5
 or-else-requires-5 c κs = search needs
 
--- src/start.rt:57:5
 or-else-requires-6 : tie.Need-or-else-requires-6
 or-else-requires-6 c κs = search needs
 
--- src/start.rt:39:1
 returns : tie.Need-returns
 unfolding startLimits
 returns c =

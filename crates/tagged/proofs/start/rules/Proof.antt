@@ -5,29 +5,21 @@ use Rattle.policy.specs.Read.{readTable}
 use Rattle.tagged.proofs.Starting.{rules-kept, rules-broken}
 use Rattle.tagged.proofs.start.rules.Statement.{statement}
 use Rattle.tagged.proofs.start.rules.Tie as tie
-use Rattle.tagged.proofs.start.rules.Reads as reads
-use Rattle.tagged.proofs.start.rules.Lts as lts
-use Rattle.policy.proofs.check_table.Reads as check-table-reads
 
--- src/start.rt:18:9
 check-table-requires : tie.Need-check-table-requires
 check-table-requires c κs = search needs
 
--- src/start.rt:20:38
 enum-told : tie.Need-enum-told
 enum-told c = search needs
 
--- src/start.rt:21:34
 enum-known-checked : tie.Need-enum-known-checked
 enum-known-checked c = search needs
 
--- src/start.rt:15:1
 returns : tie.Need-returns
 returns c =
     let a = c .before .before in
     rules-kept (readTable (now (a .before .before .args .table))) (sym (c .enum-told .given .1) ∙ a .check-table .ensures)
 
--- src/start.rt:15:1
 returns-2 : tie.Need-returns-2
 returns-2 c =
     let k = c .before in
