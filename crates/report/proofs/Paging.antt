@@ -12,25 +12,30 @@ use lib.Dec.{ltb, leb}
 use borrow.Author.Tests.{lt-ltb, le-ltb, ltb-true}
 use Rattle.word.specs.Lay.{laid}
 use Rattle.word.proofs.Lay.{laidAt-zero}
-use Rattle.program.specs.declared.Refusal.{Refusal}
+use Rattle.label.specs.Label.{InRange}
+use Rattle.program.specs.declared.Command.{Command}
+use Rattle.machine.specs.Holds.{Each}
 use Rattle.step.specs.Words.{choose}
 use Rattle.plain.specs.Plain.{Memory, memory}
+use Rattle.policy.specs.Expression.{Table}
 use Rattle.policy.specs.Standard.{standardBytes}
-use Rattle.tagged.specs.declared.run.Ran.{Ran}
 use Rattle.tagged.specs.declared.Answer.{Answer}
-use Rattle.tagged.specs.declared.Answer.the-variants.{Refused, Stopped}
-use Rattle.tagged.specs.Tagged.{Ended, ended, tagged}
+use Rattle.tagged.specs.Run.{Result}
+use Rattle.tagged.specs.Start.{Started, accepted, startOf}
+use Rattle.tagged.specs.Tagged.{Ended, ended, result, outcomeOf, tagged}
 use Rattle.report.specs.declared.job.Item.{Item}
 use Rattle.report.specs.declared.job.Item.the-variants.{Cell, Allowance, Reader, Sheet, Bad}
 use Rattle.report.specs.declared.job.Job.the-variants as Job
 use Rattle.report.specs.declared.job.Said.{Said}
 use Rattle.report.specs.declared.Outcome.{Outcome}
 use Rattle.report.specs.declared.Outcome.the-variants as Outcome
-use Rattle.report.specs.Job.{Heard, silence, withCell, withAllowance, withReader, Ending, bad, sheet, Reading, reading, itemAt, follow, readFrom, readJob, answerOf, jobAnswer, fitted}
-use Rattle.report.specs.Lines.{jobText, refusedText, linesOf, linesText}
+use Rattle.report.specs.Job.{Heard, silence, withCell, withAllowance, withReader, Ending, bad, sheet, Reading, reading}
+use Rattle.report.specs.Job.{itemAt, follow, readFrom, readJob, answerOf, jobAnswer, fitted}
+use Rattle.report.specs.Lines.{jobText, linesText}
 use Rattle.report.specs.Written.{Written}
 use Rattle.report.specs.Page.{zeros, answerText, endedText, runText, readingText, pageOf, pageLimit, pageAnswer, pageOut}
 use Rattle.report.proofs.Reading.{fitted-take}
+use Rattle.report.proofs.Printing.{linesOf-written}
 
 -- ════════════════════════════════════════════════════════════════════════════════════════════
 -- At most 1,024 cells, each with a label
@@ -87,14 +92,22 @@ module _ (values labels : List ℤ) (allowance reader : ℕ) (bytes : List ℕ) 
   unfolding runText
   run-text = ap (endedText reader) d
 
-  pub run-refused : (r : Refusal) → a ≡ Refused r → Written (refusedText (r .code) (r .position)) old 0 n new
+  pub run-written : (x : Answer) → a ≡ x → Written (answerText reader x m) old 0 n new
       → Written (runText values labels allowance reader bytes) old 0 n new
-  run-refused r e w = subst (λ (t : List ℕ). Written t old 0 n new) (sym (ap (λ x. answerText reader x m) e) ∙ run-text) w
+  run-written x e w = subst (λ (t : List ℕ). Written t old 0 n new) (sym (ap (λ x. answerText reader x m) e) ∙ run-text) w
 
-  pub run-stopped : (r : Ran) → a ≡ Stopped r
-      → Written (linesText reader (take (r .machine .lines) (linesOf (m .numbers) (m .marks)))) old 0 n new
-      → Written (runText values labels allowance reader bytes) old 0 n new
-  run-stopped r e w = subst (λ (t : List ℕ). Written t old 0 n new) (sym (ap (λ x. answerText reader x m) e) ∙ run-text) w
+-- of an accepted start, the text is that of the run's lines
+pub text-lines : (values labels : List ℤ) (allowance reader : ℕ) (bytes : List ℕ) (cs : List Command) (t : Table)
+    → startOf bytes standardBytes (zeros 7) (length values) labels (length (zeros 8192)) (length (zeros 768)) (length (zeros 302)) allowance ≡ accepted cs t
+    → (let r : Result = result cs t (zeros 7) (memory values labels (zeros 8192) (zeros 768) (zeros 1024) (zeros 1024)) allowance in
+    Each (λ l. InRange (l .label)) (r .machine .state .lines)
+    → runText values labels allowance reader bytes ≡ linesText reader (r .machine .state .lines))
+unfolding runText tagged
+text-lines values labels allowance reader bytes cs t e h =
+    let m : Memory = memory values labels (zeros 8192) (zeros 768) (zeros 1024) (zeros 1024) in
+    let r : Result = result cs t (zeros 7) m allowance in
+    ap (λ (s : Started). endedText reader (outcomeOf s (zeros 7) m (zeros 302) allowance)) e
+    ∙ ap (linesText reader) (linesOf-written (r .machine .state .lines) (zeros 1024) (zeros 1024) h)
 
 -- ════════════════════════════════════════════════════════════════════════════════════════════
 -- The job's reading
@@ -120,6 +133,10 @@ module _ (job old : List ℕ) (n : ℕ) (new : List ℕ) where
         let d = ap (λ (x : Said). x .cells) same in
         (d, omega (arith, few job .values))
 
+    -- the text of what was said, on cells
+    abbrev saidText : Said → (values labels : List ℤ) → List ℕ
+    saidText x values labels = runText values labels (x .allowance) (x .reader .0) (drop (x .sheet) job)
+
     pub cells-few : said .cells ≤ 1024
     cells-few = heard (readJob job .ending) e .1
 
@@ -138,19 +155,18 @@ module _ (job old : List ℕ) (n : ℕ) (new : List ℕ) where
           (fitted-take (readJob job .heard .labels) (zeros 1024)
           (omega (arith, few job .values, few job .labels, length-replicate 1024 (pos 0))))
 
-      pub page-read : Written (runText (take (said .cells) values) (take (said .cells) labels) (said .allowance) (said .reader .0) (drop (said .sheet) job)) old 0 n new
-          → Written (pageOf job) old 0 n new
+      pub page-read : Written (saidText said (take (said .cells) values) (take (said .cells) labels)) old 0 n new → Written (pageOf job) old 0 n new
       unfolding pageOf
       page-read w = by (readJob job .ending) e (rw (values-are, labels-are) at w)
         where
           by : (x : Ending) → Job.Read said ≡ answerOf (readJob job .heard) x
-              → Written (runText (readJob job .heard .values) (readJob job .heard .labels) (said .allowance) (said .reader .0) (drop (said .sheet) job)) old 0 n new
+              → Written (saidText said (readJob job .heard .values) (readJob job .heard .labels)) old 0 n new
               → Written (readingText job (readJob job .heard) x) old 0 n new
           by (bad k) e w = absurd (let z : _≡_ {A = ℕ} 0 1 = cc in omega arith)
           by (sheet k) e w =
               let h = readJob job .heard in
               let same : said ≡ record { cells = length (h .values); allowance = h .allowance; reader = record { 0 = h .reader }; sheet = k } = cc in
-              subst (λ (x : Said). Written (runText (h .values) (h .labels) (x .allowance) (x .reader .0) (drop (x .sheet) job)) old 0 n new) same w
+              subst (λ (x : Said). Written (saidText x (h .values) (h .labels)) old 0 n new) same w
 
 -- ════════════════════════════════════════════════════════════════════════════════════════════
 -- The space for the page

@@ -11,10 +11,13 @@ use lib.IntN.{ℤ, pos}
 use lib.Signed.{mag}
 use lib.ListN.{length, take, drop, getD, length-append, length-take, drop-of-length-le}
 use lib.Seq.{drop-cons, getD-take}
-use Rattle.label.specs.Label.{flows}
-use Rattle.word.specs.Lay.{laidAt}
+use Rattle.label.specs.Label.{InRange, flows}
+use Rattle.word.specs.Lay.{laid, laidAt}
 use Rattle.word.proofs.Lay.{laidAt-nil, laidAt-append, length-laidAt}
 use Rattle.machine.specs.Atom.{Line}
+use Rattle.machine.specs.Holds.{Each}
+use Rattle.step.specs.Layout.{lineNumbers, lineLabels}
+use Rattle.step.proofs.Link.Stack.{lowLabel-id}
 use Rattle.step.specs.Words.{choose}
 use Rattle.report.specs.Lines.{lineText, shownText, linesText, lineOf, linesOf}
 use Rattle.report.specs.Written.{Written}
@@ -37,6 +40,18 @@ linesOf-at [] marks i h = absurd (omega arith)
 linesOf-at (n ∷ numbers) [] i h = absurd (omega arith)
 linesOf-at (n ∷ numbers) (m ∷ marks) zero h = refl
 linesOf-at (n ∷ numbers) (m ∷ marks) (suc i) h = linesOf-at numbers marks i (omega arith)
+
+-- lines whose labels are in range, written at the start of the two runs, are read back
+pub linesOf-written : (ls : List Line) (numbers marks : List ℤ) → Each (λ l. InRange (l .label)) ls
+    → take (length ls) (linesOf (laid (lineNumbers ls) numbers) (laid (lineLabels ls) marks)) ≡ ls
+unfolding laid linesOf
+linesOf-written ls numbers marks h = go ls (drop (length (lineNumbers ls)) numbers) (drop (length (lineLabels ls)) marks) h
+  where
+    go : (ls : List Line) (ns ms : List ℤ) → Each (λ l. InRange (l .label)) ls
+        → take (length ls) (linesOf (lineNumbers ls ++ ns) (lineLabels ls ++ ms)) ≡ ls
+    go [] ns ms h = refl
+    go (l ∷ ls) ns ms h =
+        ap₂ (λ (n : ℕ) (xs : List Line). record { number = l .number; label = n } ∷ xs) (lowLabel-id (l .label) (h .0)) (go ls ns ms (h .1))
 
 -- the first of them
 module _ (numbers marks : List ℤ) (written : ℕ) where

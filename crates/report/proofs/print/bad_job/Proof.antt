@@ -20,19 +20,21 @@ slice-aggregate-bytes-2 c = search needs
 
 bytes-requires-2 : tie.Need-bytes-requires-2
 bytes-requires-2 c κs =
+    let offset = c .before .before .before .before in
+    let word = offset .before .before .before .before in
     written-room 20 1 (natural-short _)
-    (written-room 4 21 (omega arith) (omega (arith, c .before .before .before .before .before .before .before .before .before .before .before .before .pre)) (c .before .before .before .before .before .before .before .before .bytes .ensures))
-    (c .before .before .before .before .number .ensures)
+    (written-room 4 21 (omega arith) (omega (arith, word .before .before .before .before .pre)) (word .bytes .ensures))
+    (offset .number .ensures)
 
 same-length : tie.Need-same-length
 same-length c = search needs
 
 returns : tie.Need-returns
 returns c =
-    written-job _ _ _ _ _ _ _ _ (c .before .before .before .before .before .before .before .before .before .before .before .before .before .before .before .pre)
-    (c .before .before .before .before .before .before .before .before .before .before .before .bytes .ensures)
-    (c .before .before .before .before .before .before .before .number .ensures)
-    (c .before .before .bytes2 .ensures)
+    let last = c .before .before in
+    let offset = last .before .before .before .before .before in
+    let word = offset .before .before .before .before in
+    written-job _ _ _ _ _ _ _ _ (word .before .before .before .before .pre) (word .bytes .ensures) (offset .number .ensures) (last .bytes2 .ensures)
 
 pub bad-job-spec : {M : Type 1} → statement M
 bad-job-spec =

@@ -19,13 +19,16 @@ same-length c = search needs
 
 returns : tie.Need-returns
 returns c =
-    let start = c .before .before .before .before .before .before .before in
-    written-shown _ _ _ _ _ _ (sym (c .before .before .before .before .before .flows .ensures) ∙ c .before .before .before .before .if1 .taken) (rw (back (start .fits .n)) at (c .before .before .line .ensures))
+    let line = c .before .before in
+    let test = line .before .before in
+    written-shown _ _ _ _ _ _ (sym (test .before .flows .ensures) ∙ test .if1 .taken)
+    (rw (back (test .before .before .before .fits .n)) at (line .line .ensures))
 
 returns-2 : tie.Need-returns-2
 returns-2 c =
     let a = c .before .before .before .args in
-    written-hidden (a .reader .0) (record { number = a .n; label = a .label .0 }) (now (a .out)) (a .at) (sym (c .before .flows .ensures) ∙ c .if1 .left)
+    written-hidden (a .reader .0) (record { number = a .n; label = a .label .0 }) (now (a .out)) (a .at)
+    (sym (c .before .flows .ensures) ∙ c .if1 .left)
 
 pub shown-spec : {M : Type 1} → statement M
 shown-spec = tie.close (tie.spec flows-requires line-requires same-length returns returns-2)
