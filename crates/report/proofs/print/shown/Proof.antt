@@ -1,0 +1,34 @@
+-- `report::print::shown` meets its contract: the test of the label decides.
+-- Assumes nothing.
+use denote.Ref.{now}
+use mathlib.Core.Path.{_∙_, sym}
+use Rattle.word.proofs.Signed.{back}
+use Rattle.report.proofs.Printing.{written-shown, written-hidden}
+use borrow.Author.Needs.{needs}
+use Rattle.report.proofs.print.shown.Statement.{statement}
+use Rattle.report.proofs.print.shown.Tie as tie
+
+flows-requires : tie.Need-flows-requires
+flows-requires c κs = search needs
+
+line-requires : tie.Need-line-requires
+line-requires c κs = search needs
+
+same-length : tie.Need-same-length
+same-length c = search needs
+
+returns : tie.Need-returns
+returns c =
+    let line = c .before .before in
+    let test = line .before .before in
+    written-shown _ _ _ _ _ _ (sym (test .before .flows .ensures) ∙ test .if1 .taken)
+    (rw (back (test .before .before .before .fits .n)) at (line .line .ensures))
+
+returns-2 : tie.Need-returns-2
+returns-2 c =
+    let a = c .before .before .before .args in
+    written-hidden (a .reader .0) (record { number = a .n; label = a .label .0 }) (now (a .out)) (a .at)
+    (sym (c .before .flows .ensures) ∙ c .if1 .left)
+
+pub shown-spec : {M : Type 1} → statement M
+shown-spec = tie.close (tie.spec flows-requires line-requires same-length returns returns-2)

@@ -1,0 +1,5 @@
+pub mod Job
+pub mod Lines
+pub mod Written
+pub mod Page
+pub mod Reading

@@ -1,0 +1,50 @@
+-- The text of a page, in ASCII: each printed line ends in a newline (0a), and its parts are divided by one space (20).
+use Prim.Native.Nat.{ℕ}
+use mathlib.Core.List.{List, [], _∷_, _++_}
+use lib.IntN.{ℤ}
+use Rattle.word.specs.Text.{natural, decimal, hexadecimal}
+use Rattle.label.specs.Label.{flows}
+use Rattle.label.specs.Word.{lowLabel}
+use Rattle.machine.specs.Atom.{Line}
+use Rattle.step.specs.Words.{choose}
+
+abbrev pub space : List ℕ
+space = 0x20 ∷ []
+
+abbrev pub newline : List ℕ
+newline = 0x0a ∷ []
+
+-- `job`, and the offset
+abbrev pub jobWord : List ℕ
+jobWord = 0x6a ∷ 0x6f ∷ 0x62 ∷ []
+
+unfoldable pub jobText : ℕ → List ℕ
+jobText offset = jobWord ++ space ++ natural offset ++ newline
+
+-- `refused`, number, place
+abbrev pub refusedWord : List ℕ
+refusedWord = 0x72 ∷ 0x65 ∷ 0x66 ∷ 0x75 ∷ 0x73 ∷ 0x65 ∷ 0x64 ∷ []
+
+unfoldable pub refusedText : ℕ → ℕ → List ℕ
+refusedText number place = refusedWord ++ space ++ natural number ++ space ++ natural place ++ newline
+
+-- number in decimal, space, label in eight lowercase hexadecimal digits
+unfoldable pub lineText : Line → List ℕ
+lineText x = decimal (x .number) ++ space ++ hexadecimal (x .label) ++ newline
+
+-- a line whose label flows to the reader's set
+abbrev pub shownText : (reader : ℕ) → Line → List ℕ
+shownText reader x = choose (flows (x .label) reader) (lineText x) []
+
+unfoldable pub linesText : (reader : ℕ) → List Line → List ℕ
+linesText reader [] = []
+linesText reader (x ∷ xs) = shownText reader x ++ linesText reader xs
+
+-- the lines of an output space: a number word and a label word each
+abbrev pub lineOf : ℤ → ℤ → Line
+lineOf number mark = record { number = number; label = lowLabel mark }
+
+unfoldable pub linesOf : List ℤ → List ℤ → List Line
+linesOf [] marks = []
+linesOf (n ∷ numbers) [] = []
+linesOf (n ∷ numbers) (m ∷ marks) = lineOf n m ∷ linesOf numbers marks
