@@ -5,6 +5,7 @@ set -eu
 cd "$(dirname "$0")/.."
 job=${1:?usage: bash examples/page.sh JOB-FILE}
 [ -r "$job" ] || { echo "page.sh: cannot read $job" >&2; exit 1; }
-rt check page > target-page.log 2>&1 || { cat target-page.log >&2; rm -f target-page.log; exit 1; }
-rm -f target-page.log
+log=$(mktemp)
+trap 'rm -f "$log"' EXIT
+rt check page > "$log" 2>&1 || { cat "$log" >&2; exit 1; }
 target/bin/page < "$job"
