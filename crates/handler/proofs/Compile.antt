@@ -12,13 +12,13 @@ use lib.Dec.{eqb, eqb·suc-zero}
 use Rattle.label.specs.Label as Label
 use Rattle.label.specs.Label.{InRange}
 use Rattle.label.proofs.Laws.{join-range, join-comm, flows-is-join}
-use Rattle.machine.specs.Rule.{Input, present, missing, Key, labelOf}
+use Rattle.machine.specs.Rule.{Input, present, missing, inputWord, Key, labelOf}
 use Rattle.policy.specs.Expression.{LabelExpr, empty, place, input1, input2, input3, join, Condition, flows, always, both, either}
 use Rattle.policy.specs.Evaluate.{evalLabel, evalCondition}
 use Rattle.handler.specs.Kernel.{Instruction, Push, Bnz, stackLimit}
 use Rattle.handler.specs.Translate.{compileLabel, compileCondition}
 use Rattle.policy.specs.Write.{labelDepth, conditionDepth, LabelSupplied, ConditionSupplied}
-use Rattle.handler.specs.Row.{row, inputWord}
+use Rattle.handler.specs.Row.{row}
 use Rattle.handler.proofs.Word.{orWord-join, join-le, join-zero, difference-zero, subWrap-pos}
 use Rattle.handler.proofs.Exec.{exec}
 use Rattle.handler.proofs.Instruction.{exec-push, exec-dup, exec-or, exec-sub, exec-bnz, exec-bnz-zero, exec-read, exec-over}

@@ -16,6 +16,7 @@ use Rattle.handler.specs.Kernel.{Instruction, Add, Sub, Or, Load, Store,
 use Rattle.handler.specs.Kernel.{returned, denied, failed, Effect, ends, goes, Code, Kernel, Result, stackLimit}
 use Rattle.handler.specs.Kernel.{withValue, withValues, withElement, withWord, provided, pushing, jumping}
 use Rattle.handler.specs.Kernel.{effect, effectAt, step, after, run, handle, start}
+use Rattle.handler.specs.Space.{held, handleSpace}
 use Rattle.handler.specs.Claim.{Reaches, here, next}
 
 -- ════════════════════════════════════════════════════════════════════════════════════════════
@@ -130,6 +131,11 @@ module _ (code : Code) where
 pub handle-steps : (code : List Instruction) (w : List ℤ) → handle code w .steps ≤ length code
 unfolding handle
 handle-steps code w = omega (arith, run-left (getElem? code) (length code) (start w) .steps)
+
+-- the same of a handler that a space holds
+pub handleSpace-steps : (space : List ℤ) (count : ℕ) (w : List ℤ) → handleSpace space count w .steps ≤ count
+unfolding handleSpace
+handleSpace-steps space count w = omega (arith, run-left (held space count) count (start w) .steps)
 
 pub handle-words : (code : List Instruction) (w : List ℤ) → length (handle code w .row) ≡ length w
 unfolding handle

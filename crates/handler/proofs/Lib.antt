@@ -8,6 +8,3 @@ pub mod Handler
 pub mod Shape
 pub mod Space
 pub mod Readings
-pub mod Words
-pub mod Acting
-pub mod Going

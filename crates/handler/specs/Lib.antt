@@ -3,5 +3,4 @@ pub mod Translate
 pub mod Row
 pub mod Claim
 pub mod Space
-pub mod Words
 pub mod Reading

@@ -4,12 +4,8 @@ use mathlib.Core.List.{List, [], _∷_}
 use lib.IntN.{ℤ, pos, negsuc}
 use lib.Dec.{ltb}
 use Rattle.program.specs.Command.{codeOf}
-use Rattle.machine.specs.Rule.{Input, present, missing, Key}
+use Rattle.machine.specs.Rule.{Input, present, missing, inputWord, Key}
 use Rattle.policy.specs.Read.{supplies}
-
-abbrev pub inputWord : Input → ℤ
-inputWord (present l) = pos l
-inputWord missing = negsuc 0
 
 -- the key's five words, and two more
 abbrev pub row : Key → ℤ → ℤ → List ℤ

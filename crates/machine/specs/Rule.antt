@@ -1,6 +1,7 @@
 -- Rules: whether a command is allowed, the new place label and the result label. A policy gives these for every key.
 use Prim.Native.Nat.{ℕ}
 use mathlib.Core.Bool.{Bool, true, false}
+use lib.IntN.{ℤ, pos, negsuc}
 use Rattle.label.specs.Label.{bottom, join, flows}
 use Rattle.program.specs.Command.{Opcode, add, sub, pop, output, push, load, store, jump, bnz, call, ret}
 
@@ -8,6 +9,11 @@ use Rattle.program.specs.Command.{Opcode, add, sub, pop, output, push, load, st
 pub data Input : Type 0 where
   present : ℕ → Input
   missing : Input
+
+-- its word in the rule memory: −1 stands for a missing input
+abbrev pub inputWord : Input → ℤ
+inputWord (present l) = pos l
+inputWord missing = negsuc 0
 
 -- what a rule is asked with: the command, the place label P and the labels L1 to L3 of the inputs
 pub record Key : Type 0 where

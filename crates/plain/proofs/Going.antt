@@ -2,7 +2,7 @@
 -- Assumes nothing.
 use mathlib.Core.Path.{_≡_, refl, sym, ap, _∙_}
 use mathlib.Core.List.{List}
-use Prim.Native.Nat.{ℕ, zero, suc, _+_, _-_, _<_, _≤_}
+use Prim.Native.Nat.{ℕ, suc, _+_, _-_, _<_, _≤_}
 use native.Mathlib.Nat.{sub-zero}
 use native.Mathlib.Omega.{arith}
 use lib.IntN.{ℤ}
@@ -12,14 +12,14 @@ use lib.Dec.{ltb}
 use mathlib.Core.Bool.{Bool, true, false}
 use Rattle.word.specs.declared.number.Natural.{Natural}
 use Rattle.word.specs.declared.number.Natural.the-variants.{Of, Negative}
-use Rattle.word.specs.declared.number.Index.{Index}
 use Rattle.word.specs.declared.number.Index.the-variants.{At, Outside}
 use Rattle.word.specs.Number.{naturalOf, indexIf, indexNatural, indexOf}
 use Rattle.step.specs.declared.Machine.{Machine}
+use Rattle.step.specs.declared.Stepped.{Stepped}
 use Rattle.step.specs.Words.{started}
-use Rattle.plain.specs.declared.command.Stepped.{Stepped}
-use Rattle.plain.specs.Step.{Lent, After, after, stepOf}
-use Rattle.plain.specs.Loop.{Done, done, ran, endOr, codeAt, operandAt, atPlace, loopOf}
+use Rattle.step.specs.Lent.{Lent, after}
+use Rattle.plain.specs.Step.{stepOf}
+use Rattle.plain.specs.Loop.{done, ran, endOr, codeAt, operandAt, atPlace, loopOf}
 
 -- an index that is found lies below the bound
 pub index-below : (z : ℤ) (n i : ℕ) → indexOf z n ≡ At i → i < n

@@ -1,6 +1,7 @@
 pub mod Zero
 pub mod Limits
 pub mod Going
-pub mod Link
+pub mod Fused
+pub mod Simulate
 pub mod Whole
 pub mod Accepted

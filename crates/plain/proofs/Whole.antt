@@ -2,43 +2,41 @@
 -- Assumes nothing.
 use mathlib.Core.Path.{_≡_, refl, sym, ap, ap₂, _∙_}
 use mathlib.Core.Bool.{Bool, true, false}
-use mathlib.Core.List.{List, [], _∷_}
-use mathlib.Core.Option.{some}
-use Prim.Native.Nat.{ℕ, zero, suc, _+_, _*_, _%_, _^_, _<_, _≤_}
-use native.Mathlib.Nat.{mod-eq-of-lt}
-use native.Mathlib.Numerals.{add-one}
+use mathlib.Core.List.{List}
+use Prim.Native.Nat.{ℕ, zero, suc, _+_}
 use native.Mathlib.Omega.{arith}
 use lib.IntN.{ℤ, pos, negsuc}
-use lib.ListN.{length, getD, getElem?}
-use lib.Dec.{ltb, eqb}
-use borrow.Author.Tests.{lt-ltb, le-ltb, eq-eqb, ne-eqb, ltb-true, ltb-false, eqb-true, eqb-false}
-use Rattle.word.specs.declared.number.Index.the-variants.{At, Outside}
+use lib.ListN.{length}
+use borrow.Author.Tests.{eq-eqb}
 use Rattle.word.specs.Number.{naturalOf, indexOf}
 use Rattle.word.specs.Wrap.{residue, Signed}
 use Rattle.word.specs.Lay.{laid}
 use Rattle.program.specs.declared.Command.{Command}
-use Rattle.program.specs.Command.{Opcode, add, sub, pop, output, push, load, store, jump, bnz, call, ret, opcode, operand, codeOf}
+use Rattle.program.specs.Command.{opcode, operand, codeOf}
 use Rattle.program.specs.Space.{programWords}
-use Rattle.program.proofs.Words.{code-at, operand-at, element-below}
-use Rattle.machine.specs.Rule.{Policy, standard}
-use Rattle.machine.specs.State.{State, Stop, end, fuelSpent, pcOutside, valueMissing, frameMissing, addressOutside, denial, stackFull, outputFull, stopNumber}
+use Rattle.program.proofs.Words.{code-at, operand-at}
+use Rattle.machine.specs.Rule.{standard}
+use Rattle.machine.specs.State.{State, Stop, end, fuelSpent, pcOutside, stopNumber}
 use Rattle.machine.specs.Step.{Outcome, stopped, stepped, execute}
-use Rattle.machine.specs.Run.{Result, step, run, atEnd, executeElement, executeAt}
-use Rattle.machine.specs.Stopped.{CommandAt, NoCommandAt}
+use Rattle.machine.specs.Run.{Result, run, atEnd}
+use Rattle.machine.specs.Stopped.{CommandAt}
 use Rattle.machine.specs.Holds.{ProgramHas}
 use Rattle.machine.proofs.Execute as Execute
+use Rattle.machine.proofs.Holds.{standard-range}
 use Rattle.machine.proofs.Run.{run-end, run-stopped, run-stepped}
 use Rattle.step.specs.declared.Machine.{Machine}
-use Rattle.step.specs.Layout.{stackWords, cellValues, cellLabels, lineNumbers, lineLabels, stackAfter}
-use Rattle.plain.specs.Command.{outcome}
-use Rattle.plain.specs.Step.{Lent, lent, After, after, stepOf}
-use Rattle.plain.specs.Loop.{Done, done, ran, isCount, endOr, codeAt, operandAt, atPlace, onward, loopOf}
+use Rattle.step.specs.Layout.{cellValues, cellLabels, lineNumbers, lineLabels, stackAfter}
+use Rattle.step.specs.Lent.{Lent, lent, After}
+use Rattle.step.proofs.Link.Represents.{Represents, Sound, Simulates}
+use Rattle.step.proofs.Link.Carried.{machine-is}
+use Rattle.step.proofs.Link.Place.{code-residue, going-at, step-at, Place, inside, atTheEnd, beyond, placed, step-none}
+use Rattle.step.proofs.Link.Space.{run-spent, stack-end, stack-stopped, stack-stepped}
+use Rattle.step.proofs.Link.Keep.{sound-step}
+use Rattle.step.proofs.Link.Phases.{stop-goes}
+use Rattle.plain.specs.Step.{stepOf}
+use Rattle.plain.specs.Loop.{Done, done, ran, isCount, endOr, codeAt, onward, loopOf}
 use Rattle.plain.specs.Plain.{summary}
-use Rattle.plain.proofs.Link.Represents.{Represents, Sound, Simulates}
-use Rattle.plain.proofs.Link.Carried.{machineOf, machine-is}
-use Rattle.plain.proofs.Link.Simulate.{simulate-at}
-use Rattle.plain.proofs.Link.Keep.{going-at, step-at, sound-step}
-use Rattle.plain.proofs.Link.Length.{step-lengths}
+use Rattle.plain.proofs.Simulate.{step-lengths, simulate-at}
 
 -- ════════════════════════════════════════════════════════════════════════════════════════════
 -- What a run leaves
@@ -56,94 +54,10 @@ module _ (numbers₀ marks₀ : List ℤ) where
       → done (ran m (stopNumber x) n) l ≡ ending (record { stop = x; state = s }) (l .stack)
   held s m l x n r e = rw (machine-is r, ← e, ← r .values, ← r .labels, ← r .numbers, ← r .marks)
 
--- a code is read back from its word
-code-residue : (o : Opcode) → residue 64 (pos (codeOf o)) ≡ codeOf o
-unfolding residue
-code-residue add = refl
-code-residue sub = refl
-code-residue pop = refl
-code-residue output = refl
-code-residue push = refl
-code-residue load = refl
-code-residue store = refl
-code-residue jump = refl
-code-residue bnz = refl
-code-residue call = refl
-code-residue ret = refl
-
--- ════════════════════════════════════════════════════════════════════════════════════════════
--- Where the place stands
--- ════════════════════════════════════════════════════════════════════════════════════════════
-
--- a command stands at the place, the place is the end, or neither
-data Place (cs : List Command) (z : ℤ) : Type 0 where
-  inside : (i : ℕ) (c : Command) → indexOf z (length cs) ≡ At i → getElem? cs i ≡ some c → CommandAt cs z c → Place cs z
-  atTheEnd : indexOf z (length cs) ≡ Outside → atEnd (length cs) z ≡ true → Place cs z
-  beyond : indexOf z (length cs) ≡ Outside → atEnd (length cs) z ≡ false → NoCommandAt cs z → Place cs z
-
-placed : (cs : List Command) (z : ℤ) → Place cs z
-unfolding indexOf
-placed cs (negsuc i) = beyond refl refl tt
-placed cs (pos i) = go (ltb i (length cs)) (eqb i (length cs)) refl refl
-  where
-    go : (b d : Bool) → ltb i (length cs) ≡ b → eqb i (length cs) ≡ d → Place cs (pos i)
-    go true d t e = let x = element-below cs i (ltb-true i (length cs) t) in inside i (x .0) (rw t) (x .1) (x .1)
-    go false true t e = atTheEnd (rw t) e
-    go false false t e = beyond (rw t) e (ltb-false i (length cs) t)
-
-element-none : (π : Policy) (room : ℕ) (s : State) (cs : List Command) (i : ℕ) → length cs ≤ i → executeElement π room cs i s ≡ stopped pcOutside
-element-none π room s [] i h = refl
-element-none π room s (c ∷ cs) zero h = absurd (omega arith)
-element-none π room s (c ∷ cs) (suc i) h = element-none π room s cs i (omega arith)
-
-step-none : (π : Policy) (room : ℕ) (cs : List Command) (s : State) → NoCommandAt cs (s .pc .number) → step π room cs s ≡ stopped pcOutside
-unfolding step
-step-none π room cs s h = go (s .pc .number) h
-  where
-    go : (z : ℤ) → NoCommandAt cs z → executeAt π room cs z s ≡ stopped pcOutside
-    go (pos i) h = element-none π room s cs i h
-    go (negsuc i) h = refl
-
 -- the test for the end, on words and in the machine
-end-is : (z : ℤ) (n : ℕ) → isCount (naturalOf z) n ≡ atEnd n z
+pub end-is : (z : ℤ) (n : ℕ) → isCount (naturalOf z) n ≡ atEnd n z
 end-is (pos i) n = refl
 end-is (negsuc i) n = refl
-
--- no stop has the number that stands for none
-stop-goes : (x : Stop) → eqb (stopNumber x) 9 ≡ false
-stop-goes end = refl
-stop-goes fuelSpent = refl
-stop-goes pcOutside = refl
-stop-goes valueMissing = refl
-stop-goes frameMissing = refl
-stop-goes addressOutside = refl
-stop-goes denial = refl
-stop-goes stackFull = refl
-stop-goes outputFull = refl
-
--- ════════════════════════════════════════════════════════════════════════════════════════════
--- The stack space over a run
--- ════════════════════════════════════════════════════════════════════════════════════════════
-
-module _ (π : Policy) (room : ℕ) (cs : List Command) where
-  run-spent : (s : State) → atEnd (length cs) (s .pc .number) ≡ false → run π room cs 0 s ≡ record { stop = fuelSpent; state = s }
-  unfolding run
-  run-spent s t = rw t
-
-  stack-end : (fuel : ℕ) (s : State) (space : List ℤ) → atEnd (length cs) (s .pc .number) ≡ true → stackAfter π room cs fuel s space ≡ space
-  unfolding stackAfter
-  stack-end zero s space t = refl
-  stack-end (suc fuel) s space t = rw t
-
-  stack-stopped : (fuel : ℕ) (s : State) (space : List ℤ) (x : Stop) → atEnd (length cs) (s .pc .number) ≡ false → step π room cs s ≡ stopped x
-      → stackAfter π room cs (suc fuel) s space ≡ space
-  unfolding stackAfter
-  stack-stopped fuel s space x t e = rw (t, e)
-
-  stack-stepped : (fuel : ℕ) (s u : State) (space : List ℤ) → atEnd (length cs) (s .pc .number) ≡ false → step π room cs s ≡ stepped u
-      → stackAfter π room cs (suc fuel) s space ≡ stackAfter π room cs fuel u (laid (stackWords (u .stack)) space)
-  unfolding stackAfter
-  stack-stepped fuel s u space t e = rw (t, e)
 
 -- ════════════════════════════════════════════════════════════════════════════════════════════
 -- The loop
@@ -159,11 +73,11 @@ module _ (cs : List Command) (program₀ : List ℤ) (room : ℕ) (numbers₀ ma
       ≡ ending numbers₀ marks₀ (run standard room cs fuel s) (stackAfter standard room cs fuel s (l .stack))
 
   module _ (s : State) (m : Machine) (l : Lent) (n : ℕ) (r : Represents numbers₀ marks₀ s m l) (e : s .steps ≡ n) where
-    end-yes : (other : ℕ) → atEnd (length cs) (s .pc .number) ≡ true → endOr m (length cs) other ≡ 0
+    pub end-yes : (other : ℕ) → atEnd (length cs) (s .pc .number) ≡ true → endOr m (length cs) other ≡ 0
     unfolding endOr
     end-yes other t = rw (r .pc, end-is (s .pc .number) (length cs), t)
 
-    end-no : (other : ℕ) → atEnd (length cs) (s .pc .number) ≡ false → endOr m (length cs) other ≡ other
+    pub end-no : (other : ℕ) → atEnd (length cs) (s .pc .number) ≡ false → endOr m (length cs) other ≡ other
     unfolding endOr
     end-no other t = rw (r .pc, end-is (s .pc .number) (length cs), t)
 
@@ -199,9 +113,9 @@ module _ (cs : List Command) (program₀ : List ℤ) (room : ℕ) (numbers₀ ma
         let g = going-at cs (s .pc .number) c found in
         let v = step-at standard room s cs c found ∙ d in
         let steps : t .steps ≡ n + 1 = let k = change t d .steps in omega arith in
-        let long = rw f at (step-lengths room (codeOf (opcode c)) (operand c) m l .stack) in
+        let long = rw f at (step-lengths room c m l .stack) in
         rw (eq-eqb (a .stepped .stop) 9 (w .0))
-        (on t (a .stepped .machine) (a .lent) (n + 1) (w .1) (sound-step cs c found d h long) steps
+        (on t (a .stepped .machine) (a .lent) (n + 1) (w .1) (sound-step standard standard-range cs c found d h long) steps
         ∙ ap₂ (ending numbers₀ marks₀) (sym (run-stepped standard room cs fuel s t g v))
         (ap (stackAfter standard room cs fuel t) (w .2) ∙ sym (stack-stepped standard room cs fuel s t (l .stack) g v)))
       where
@@ -225,7 +139,7 @@ module _ (cs : List Command) (program₀ : List ℤ) (room : ℕ) (numbers₀ ma
         let code : codeAt words i ≡ codeOf (opcode c) = ap (residue 64) (code-at cs program₀ i c found) ∙ code-residue (opcode c) in
         rw (ap (λ z. indexOf z (length cs)) (r .pc) ∙ o, code, operand-at cs program₀ i c found)
         (ends-outcome fuel i c at h on (execute standard room c s) refl (stepOf room (codeOf (opcode c)) (operand c) m l) refl
-        (simulate-at room numbers₀ marks₀ c s m l r h cs has at))
+        (simulate-at room c m l numbers₀ marks₀ s r h cs has at))
 
   -- the loop ends as the machine's run does
   pub loop-run : (fuel : ℕ) (s : State) (m : Machine) (l : Lent) (n : ℕ) → Represents numbers₀ marks₀ s m l → Sound room numbers₀ marks₀ s l → s .steps ≡ n

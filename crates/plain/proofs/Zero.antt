@@ -2,14 +2,12 @@
 -- Assumes nothing.
 use mathlib.Core.Path.{_≡_, refl}
 use mathlib.Core.Bool.{true, false}
-use Prim.Native.Nat.{_^_, _<_}
 use native.Mathlib.Omega.{arith}
 use lib.IntN.{ℤ, pos, negsuc}
-use lib.Signed.{mag}
 use mir.Syntax.{w64}
 use mir.Val.{SFits, ofZ}
 use borrow.Author.Tests.{eq-eqb, ne-eqb}
-use Rattle.plain.specs.Command.{isZero}
+use Rattle.step.specs.Phase.{isZero}
 
 pub zero-is : (z : ℤ) → SFits w64 z → ofZ w64 z ≡ 0 → isZero z ≡ true
 zero-is (pos n) f e = eq-eqb n 0 e

@@ -1,47 +1,22 @@
 -- The commands on lent words, as the code of this crate carries them out under the standard rules. What they mean for the machine of
 -- document 01 is shown in proofs/.
 use Prim.Native.Nat.{ℕ}
-use mathlib.Core.Bool.{Bool, true, false}
 use mathlib.Core.List.{List}
-use lib.IntN.{ℤ, pos, negsuc}
+use lib.IntN.{ℤ, pos}
 use lib.ListN.{length, getD, set}
-use lib.Dec.{ltb, eqb}
+use lib.Dec.{ltb}
 use Rattle.word.specs.declared.number.Index.{Index}
 use Rattle.word.specs.declared.number.Index.the-variants.{At, Outside}
 use Rattle.word.specs.Number.{indexOf}
-use Rattle.word.specs.Wrap.{addWrap, subWrap}
+use Rattle.word.specs.Wrap.{addWrap}
 use Rattle.label.specs.Label.{bottom, join, flows}
 use Rattle.label.specs.Word.{lowLabel}
 use Rattle.step.specs.declared.Machine.{Machine}
 use Rattle.step.specs.declared.Slot.{Slot}
+use Rattle.step.specs.declared.Stepped.{Stepped}
 use Rattle.step.specs.Words.{choose, pushed, pushedStack, dropped, gone, following, printed, slotAt}
-use Rattle.plain.specs.declared.command.Stepped.{Stepped}
-
--- stop 9 stands for none: the command was carried out
-abbrev pub outcome : Machine → ℕ → Stepped
-outcome m stop = record { machine = m; stop = stop }
-
--- what a command that writes the stack leaves
-pub record OnStack : Type 0 where
-  pub stepped : Stepped
-  pub stack : List ℤ
-
-abbrev pub onStack : Stepped → List ℤ → OnStack
-onStack r stack = record { stepped = r; stack = stack }
-
-abbrev pub isValue : Slot → Bool
-isValue s = eqb (s .kind) 0
-
-abbrev pub isFrame : Slot → Bool
-isFrame s = eqb (s .kind) 1
-
--- one entry more, after m and its stack
-abbrev pub pushing : Machine → List ℤ → ℤ → ℤ → ℕ → ℕ → OnStack
-pushing m stack kind number label p = onStack (outcome (following (pushed m) p) 9) (pushedStack m stack kind number label)
-
--- Add has code 1, Sub 2
-unfoldable pub sumOf : ℕ → ℤ → ℤ → ℤ
-sumOf code a b = choose (eqb code 1) (addWrap a b) (subWrap a b)
+use Rattle.step.specs.Lent.{outcome, OnStack, onStack, OnLines, onLines, OnCells, onCells}
+use Rattle.step.specs.Phase.{isValue, isFrame, sumOf, branchOf, pushing}
 
 unfoldable pub arithOf : ℕ → Machine → List ℤ → OnStack
 arithOf code m stack =
@@ -55,15 +30,6 @@ arithOf code m stack =
 
 unfoldable pub popOf : Machine → List ℤ → Stepped
 popOf m stack = choose (isValue (slotAt stack (m .depth) 0)) (outcome (following (dropped m) (m .label .0)) 9) (outcome m 3)
-
--- what Output leaves
-pub record OnLines : Type 0 where
-  pub stepped : Stepped
-  pub numbers : List ℤ
-  pub marks : List ℤ
-
-abbrev pub onLines : Stepped → List ℤ → List ℤ → OnLines
-onLines r numbers marks = record { stepped = r; numbers = numbers; marks = marks }
 
 unfoldable pub outputOf : ℕ → Machine → List ℤ → List ℤ → List ℤ → OnLines
 outputOf room m stack numbers marks =
@@ -91,15 +57,6 @@ loadOf m stack values labels =
     let a = slotAt stack (m .depth) 0 in
     choose (isValue a) (loadCell (indexOf (a .number) (length values)) m a stack values labels) (onStack (outcome m 3) stack)
 
--- what Store leaves
-pub record OnCells : Type 0 where
-  pub stepped : Stepped
-  pub values : List ℤ
-  pub labels : List ℤ
-
-abbrev pub onCells : Stepped → List ℤ → List ℤ → OnCells
-onCells r values labels = record { stepped = r; values = values; labels = labels }
-
 abbrev pub storeCell : Index → Machine → Slot → Slot → List ℤ → List ℤ → OnCells
 storeCell Outside m a b values labels = onCells (outcome m 5) values labels
 storeCell (At i) m a b values labels =
@@ -122,13 +79,6 @@ unfoldable pub jumpOf : Machine → List ℤ → Stepped
 jumpOf m stack =
     let a = slotAt stack (m .depth) 0 in
     choose (isValue a) (outcome (gone (dropped m) (a .number) (join (a .label .0) (m .label .0))) 9) (outcome m 3)
-
-abbrev pub isZero : ℤ → Bool
-isZero (pos n) = eqb n 0
-isZero (negsuc n) = false
-
-unfoldable pub branchOf : ℤ → ℤ → ℤ → ℤ
-branchOf number pc operand = choose (isZero number) (addWrap pc (pos 1)) (addWrap pc operand)
 
 unfoldable pub bnzOf : ℤ → Machine → List ℤ → Stepped
 bnzOf operand m stack =

@@ -1,6 +1,6 @@
 -- The run on lent words, as the code of this crate goes round.
 use Prim.Native.Nat.{ℕ, zero, suc, _+_, _*_}
-use mathlib.Core.Bool.{Bool, true, false}
+use mathlib.Core.Bool.{Bool, false}
 use mathlib.Core.List.{List}
 use lib.IntN.{ℤ, pos}
 use lib.ListN.{getD}
@@ -13,8 +13,9 @@ use Rattle.word.specs.Number.{naturalOf, indexOf}
 use Rattle.word.specs.Wrap.{residue}
 use Rattle.step.specs.declared.Machine.{Machine}
 use Rattle.step.specs.Words.{choose}
+use Rattle.step.specs.Lent.{Lent, After}
 use Rattle.plain.specs.declared.run.Ran.{Ran}
-use Rattle.plain.specs.Step.{Lent, After, stepOf}
+use Rattle.plain.specs.Step.{stepOf}
 
 -- where a run ended
 abbrev pub ran : Machine → ℕ → ℕ → Ran

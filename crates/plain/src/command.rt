@@ -1,17 +1,14 @@
 // The commands on lent words under the standard rules, each with its stops in document 01's order.
 use label::Label;
 use step::Machine;
+use step::Stepped;
 use word::kind::Address;
 use word::kind::Pc;
 use word::number::Index;
 ghost use mathlib.Core.Path.{_≡_};
-ghost use Rattle.plain.specs.Command.{onStack, onLines, onCells, outcome, sumOf, arithOf, popOf, outputOf, pushOf, loadOf, storeOf, jumpOf, branchOf, bnzOf, callOf, retOf};
-
-// A machine after a command: stop 9 says that it was carried out, any other that the command was stopped and changed nothing.
-pub struct Stepped {
-    pub machine: Machine,
-    pub stop: u64,
-}
+ghost use Rattle.step.specs.Lent.{onStack, onLines, onCells, outcome};
+ghost use Rattle.step.specs.Phase.{sumOf, branchOf};
+ghost use Rattle.plain.specs.Command.{arithOf, popOf, outputOf, pushOf, loadOf, storeOf, jumpOf, bnzOf, callOf, retOf};
 
 fn stopped(machine: Machine, stop: u64) -> Stepped
     ensures { λ r. ⌜ r ≡ outcome machine stop ⌝ }

@@ -1,12 +1,13 @@
 // One loop over the commands.
 use crate::command;
-use crate::command::Stepped;
 use step::Machine;
+use step::Stepped;
 use word::number::Index;
 ghost use mathlib.Core.Path.{_≡_};
 ghost use Prim.Native.Nat.{_≤_};
 ghost use Rattle.step.specs.Words.{started};
-ghost use Rattle.plain.specs.Step.{after, lent, stepOf};
+ghost use Rattle.step.specs.Lent.{after, lent};
+ghost use Rattle.plain.specs.Step.{stepOf};
 ghost use Rattle.plain.specs.Loop.{done, endOr, loopOf};
 
 // Where a run ended: the machine record, the stop and the steps.
@@ -63,7 +64,7 @@ fn act(
 }
 
 // Stop 0 where the place is the number of commands, else another.
-fn end_or(m: Machine, count: usize, other: u64) -> u64
+pub fn end_or(m: Machine, count: usize, other: u64) -> u64
     ensures { λ r. ⌜ r ≡ endOr m count other ⌝ }
 {
     let place = word::number::unsigned(m.pc.0);

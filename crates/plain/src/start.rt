@@ -14,7 +14,7 @@ pub enum Limit {
     Kept,
 }
 
-fn kept_if(test: bool, code: u64, position: usize) -> Limit
+pub fn kept_if(test: bool, code: u64, position: usize) -> Limit
     ensures { λ r. ⌜ r ≡ keptIf test (refusal code position) ⌝ }
 {
     if test {
@@ -23,7 +23,7 @@ fn kept_if(test: bool, code: u64, position: usize) -> Limit
     Limit::Broken(Refusal { code, position })
 }
 
-fn or_else(first: Limit, second: Limit) -> Limit
+pub fn or_else(first: Limit, second: Limit) -> Limit
     ensures { λ r. ⌜ r ≡ orElse first second ⌝ }
 {
     match first {
@@ -32,13 +32,13 @@ fn or_else(first: Limit, second: Limit) -> Limit
     }
 }
 
-pub(crate) fn smaller(a: usize, b: usize) -> usize
+pub fn smaller(a: usize, b: usize) -> usize
     ensures { λ r. ⌜ r ≡ min a b ⌝ }
 {
     if a < b { a } else { b }
 }
 
-fn cells(values: usize, labels: usize) -> Limit
+pub fn cells(values: usize, labels: usize) -> Limit
     ensures { λ r. ⌜ r ≡ cellsLimit values labels ⌝ }
 {
     let shorter = smaller(values, labels);
@@ -48,7 +48,7 @@ fn cells(values: usize, labels: usize) -> Limit
     )
 }
 
-fn label_words(labels: &[i64]) -> Limit
+pub fn label_words(labels: &[i64]) -> Limit
     ensures { λ r. ⌜ r ≡ labelsLimit 0 (now (labels .entry)) ⌝ }
 {
     let mut i: usize = 0;
@@ -69,7 +69,7 @@ fn label_words(labels: &[i64]) -> Limit
     Limit::Kept
 }
 
-fn space(count: usize, program: usize, stack: usize) -> Limit
+pub fn space(count: usize, program: usize, stack: usize) -> Limit
     ensures { λ r. ⌜ r ≡ spaceLimit count program stack ⌝ }
 {
     or_else(
@@ -78,7 +78,7 @@ fn space(count: usize, program: usize, stack: usize) -> Limit
     )
 }
 
-fn allowance(fuel: u64) -> Limit
+pub fn allowance(fuel: u64) -> Limit
     ensures { λ r. ⌜ r ≡ fuelLimit fuel ⌝ }
 {
     kept_if(fuel <= 1000000, 9, 0)

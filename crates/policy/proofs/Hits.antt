@@ -15,11 +15,11 @@ use Rattle.label.specs.declared.Stored.the-variants as Stored
 use Rattle.label.specs.Word.{storedIf, stored}
 use Rattle.program.specs.Command.{Opcode, add, sub, pop, output, push, load, store, jump, bnz, call, ret, codeOf}
 use Rattle.program.proofs.Codes.{opcodeOf-codeOf}
-use Rattle.machine.specs.Rule.{Input, present, missing, Key, Verdict, denied, allowed}
+use Rattle.machine.specs.Rule.{Input, present, missing, inputWord, Key, Verdict, denied, allowed}
 use Rattle.policy.specs.Expression.{Table}
 use Rattle.policy.specs.Evaluate.{evaluate}
 use Rattle.policy.specs.Read.{supplies}
-use Rattle.policy.specs.Row.{isZero, emptyRow, inputOf, presentOf, labelOption, given, holds, rowKey, isStored, agrees, acceptedRow, inputWord, keyRow, Marked, WellMarked}
+use Rattle.policy.specs.Row.{isZero, emptyRow, inputOf, presentOf, labelOption, given, holds, rowKey, isStored, agrees, acceptedRow, keyRow, Marked, WellMarked}
 
 -- ════════════════════════════════════════════════════════════════════════════════════════════
 -- Labels and inputs as words

@@ -14,7 +14,7 @@ use Rattle.label.specs.declared.Stored.the-variants as Stored
 use Rattle.label.specs.Label.{InRange}
 use Rattle.label.specs.Word.{stored}
 use Rattle.program.specs.Command.{Opcode, opcodeOf, codeOf}
-use Rattle.machine.specs.Rule.{Input, present, missing, Key, Verdict, denied, allowed}
+use Rattle.machine.specs.Rule.{Input, present, missing, inputWord, Key, Verdict, denied, allowed}
 use Rattle.policy.specs.Expression.{Table}
 use Rattle.policy.specs.Evaluate.{evaluate}
 use Rattle.policy.specs.Read.{supplies, ReadTable, refused, table}
@@ -106,10 +106,6 @@ rowAnswer (table t) ws = acceptedRow t ws
 -- ════════════════════════════════════════════════════════════════════════════════════════════
 -- The row of a key
 -- ════════════════════════════════════════════════════════════════════════════════════════════
-
-abbrev pub inputWord : Input → ℤ
-inputWord (present l) = pos l
-inputWord missing = negsuc 0
 
 -- the words of a key, with two more
 abbrev pub keyRow : Key → (place result : ℤ) → List ℤ

@@ -7,7 +7,7 @@ use crate::Labels;
 use label::Label;
 
 // What a byte of a rule table stands for: an expression or an operator, or nothing.
-enum Token {
+pub enum Token {
     Empty,
     Place,
     Input1,
@@ -29,7 +29,7 @@ enum Leaf {
 }
 
 // A byte where a yes/no expression is to stand.
-enum Test {
+pub enum Test {
     True,
     Flows,
     And,
@@ -59,7 +59,7 @@ enum TwoConditions {
     Fault(usize),
 }
 
-fn token_of(byte: u8) -> Token
+pub fn token_of(byte: u8) -> Token
     ensures { λ r. ⌜ r ≡ tokenOf byte ⌝ }
 {
     match byte {
@@ -110,7 +110,7 @@ fn leaf_of(token: Token, supplied: usize, labels: Labels) -> Leaf
     }
 }
 
-fn test_of(token: Token) -> Test
+pub fn test_of(token: Token) -> Test
     ensures { λ r. ⌜ r ≡ testOf token ⌝ }
 {
     match token {

@@ -1,5 +1,5 @@
 // Rule tables. Read in specs/: Expression, Evaluate; Token, Read for their bytes; Value, Ask for what the code reads of them; Row for the rule memory.
-mod expression;
+pub mod expression;
 pub mod row;
 pub mod standard_table;
 

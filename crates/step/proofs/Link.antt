@@ -1,4 +1,16 @@
--- The words of the machine record and of the lent stack, against a list of stack entries. Assumes nothing.
+-- The link from lent words to the machine of document 01: the record and the stack against a list of entries, then what a command
+-- finds and does, under any rule. Assumes nothing.
 pub mod Laid
 pub mod Stack
 pub mod Record
+pub mod Represents
+pub mod Needs
+pub mod Runs
+pub mod Carried
+pub mod Place
+pub mod Space
+pub mod Keep
+pub mod Length
+pub mod Looks
+pub mod Command
+pub mod Phases

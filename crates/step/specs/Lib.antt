@@ -1,2 +1,4 @@
 pub mod Words
+pub mod Lent
+pub mod Phase
 pub mod Layout

@@ -1,9 +1,12 @@
 // The machine record and what a command finds on the stack and does to it, on lent words. Both engines are made of these.
-// Read in specs/: Words; what they mean for the machine of document 01 is in proofs/.
+// Read in specs/: Words, Lent, Phase; what they mean for the machine of document 01 is in proofs/.
+pub mod phase;
+
 use label::Label;
 use word::kind::Pc;
 ghost use mathlib.Core.Path.{_≡_};
 ghost use Rattle.step.specs.Words.{started, pushed, pushedStack, dropped, gone, following, printed, slotAt};
+ghost use Rattle.step.specs.Lent.{outcome};
 
 // The machine record: the place, its label, how many entries the stack has and how many lines are written.
 pub struct Machine {
@@ -79,6 +82,18 @@ impl Machine {
         }
         self
     }
+}
+
+// A machine after a command: stop 9 says that it was carried out, any other that the command was stopped and changed nothing.
+pub struct Stepped {
+    pub machine: Machine,
+    pub stop: u64,
+}
+
+pub fn stopped(machine: Machine, stop: u64) -> Stepped
+    ensures { λ r. ⌜ r ≡ outcome machine stop ⌝ }
+{
+    Stepped { machine, stop }
 }
 
 // What stands on the stack, counted from the top: a value (kind 0), a frame (kind 1) or nothing (kind 2).

@@ -5,7 +5,7 @@ use mathlib.Core.List.{List, [], _∷_, _++_, append-assoc, append-nil}
 use Prim.Native.Nat.{ℕ, zero, suc, _+_, _<_, _≤_}
 use native.Mathlib.Nat.{add-zero, zero-add, add-suc, suc-add}
 use native.Mathlib.Omega.{arith}
-use lib.ListN.{length, take, drop, set, take-append-drop, length-append, length-take, length-drop}
+use lib.ListN.{length, take, drop, set, take-append-drop, length-append, length-take, length-drop, length-set}
 use lib.Seq.{take-suc-set, take-set-le, drop-set-lt, drop-cons, getD-set-same, lt-length-set, length-take-le}
 use Rattle.word.specs.Lay.{laid, laidAt}
 
@@ -35,6 +35,17 @@ module _ {A : Type 0} where
       ∙ rw (getD-set-same old j x x h, drop-set-lt (suc j) old j x (omega arith)) in
       let n : at + length (xs ++ (x ∷ [])) ≡ suc j = simp length-append (omega arith) in
       rw (e, n, take-set-le at old j x (omega arith)) (simp append-assoc)
+
+  -- what is laid in two parts
+  pub laidAt-append : (at : ℕ) (xs ys old : List A) → at + length xs ≤ length old
+      → laidAt at (xs ++ ys) old ≡ laidAt (at + length xs) ys (laidAt at xs old)
+  laidAt-append at [] ys old h = rw (laidAt-nil at old, add-zero at)
+  laidAt-append at (x ∷ xs) ys old h =
+      let n : suc at + length xs ≡ at + length (x ∷ xs) = omega arith in
+      laidAt-cons at x (xs ++ ys) old (omega arith)
+      ∙ laidAt-append (suc at) xs ys (set old at x) (rw (length-set old at x) (omega arith))
+      ∙ ap (λ (l : List A). laidAt (suc at + length xs) ys l) (sym (laidAt-cons at x xs old (omega arith)))
+      ∙ ap (λ (k : ℕ). laidAt k ys (laidAt at (x ∷ xs) old)) n
 
   pub length-laidAt : (at : ℕ) (new old : List A) → at + length new ≤ length old → length (laidAt at new old) ≡ length old
   unfolding laidAt

@@ -5,7 +5,7 @@ ghost use Prim.Native.Nat.{_+_, _<_, _≤_};
 ghost use lib.IntN.{natAbs};
 ghost use lib.ListN.{length};
 ghost use Rattle.word.specs.Lay.{laidAt};
-ghost use Rattle.word.specs.Text.{digitChar, numeral, digitCount, decimal, hexadecimal, putAnswer, putOut};
+ghost use Rattle.word.specs.Text.{digitChar, numeral, digitCount, natural, decimal, hexadecimal, putAnswer, putOut};
 
 // The position after what was written, or that nothing was, as there is no room for all of it.
 pub enum Put {
@@ -30,6 +30,14 @@ pub fn put_decimal(n: i64, out: &mut [u8], at: usize) -> Put
     } else {
         put_numeral(size, 10, count, out, at)
     }
+}
+
+// A number that has no sign in decimal, as a page has a place.
+pub fn put_natural(n: u64, out: &mut [u8], at: usize) -> Put
+    ensures answer { λ r. ⌜ r ≡ putAnswer at (natural n) (now (out .entry)) ⌝ }
+    ensures written { λ r. ⌜ now (out .exit) ≡ putOut at (natural n) (now (out .entry)) ⌝ }
+{
+    put_numeral(n, 10, digit_count(n), out, at)
 }
 
 // Eight hexadecimal digits, as a page has a label.

@@ -4,7 +4,7 @@ use native.Mathlib.Omega.{arith}
 use mathlib.Core.Path.{_∙_, sym, ap}
 use denote.Ref.{now}
 use Rattle.step.specs.Words.{started}
-use Rattle.plain.specs.Step.{lent}
+use Rattle.step.specs.Lent.{lent}
 use Rattle.plain.specs.Loop.{loopOf}
 use Rattle.plain.specs.Plain.{Memory, memory}
 use Rattle.plain.proofs.Accepted.{count-few, execute-refused, execute-accepted}

@@ -3,8 +3,8 @@
 use native.Mathlib.Omega.{arith}
 use borrow.Author.Tests.{eq-eqb, ne-eqb}
 use Rattle.word.proofs.Signed.{back, back-ok}
+use Rattle.step.specs.Phase.{branchOf}
 use Rattle.plain.proofs.Zero.{zero-is, zero-not}
-use Rattle.plain.specs.Command.{branchOf}
 use borrow.Author.Needs.{needs}
 use Rattle.plain.proofs.command.branch.Statement.{statement}
 use Rattle.plain.proofs.command.branch.Tie as tie

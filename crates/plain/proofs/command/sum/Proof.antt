@@ -2,7 +2,7 @@
 -- Assumes nothing.
 use borrow.Author.Tests.{eq-eqb, ne-eqb}
 use Rattle.word.proofs.Signed.{back, back-ok}
-use Rattle.plain.specs.Command.{sumOf}
+use Rattle.step.specs.Phase.{sumOf}
 use borrow.Author.Needs.{needs}
 use Rattle.plain.proofs.command.sum.Statement.{statement}
 use Rattle.plain.proofs.command.sum.Tie as tie

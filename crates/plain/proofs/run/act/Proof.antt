@@ -4,7 +4,8 @@ use mathlib.Core.Path.{ap}
 use denote.Ref.{now}
 use borrow.Author.Tests.{lt-ltb, le-ltb, eq-eqb, ne-eqb}
 use Rattle.word.proofs.Signed.{back}
-use Rattle.plain.specs.Step.{Lent, lent, after, withStack, withLines, withCells, stepOf}
+use Rattle.step.specs.Lent.{Lent, lent, after, withStack, withLines, withCells}
+use Rattle.plain.specs.Step.{stepOf}
 use borrow.Author.Needs.{needs}
 use Rattle.plain.proofs.run.act.Statement.{statement}
 use Rattle.plain.proofs.run.act.Tie as tie

@@ -9,7 +9,8 @@ use Rattle.word.specs.declared.number.Index.the-variants.{At}
 use Rattle.word.specs.Number.{indexOf}
 use Rattle.word.specs.Wrap.{residue}
 use Rattle.word.proofs.Signed.{back-ok}
-use Rattle.plain.specs.Step.{Lent, lent, after, stepOf}
+use Rattle.step.specs.Lent.{Lent, lent, after}
+use Rattle.plain.specs.Step.{stepOf}
 use Rattle.plain.specs.Loop.{codeAt, operandAt}
 use Rattle.plain.proofs.Going.{Going, SameLengths, going-start, going-end, going-outside, going-stopped, going-on, index-below}
 use Rattle.plain.proofs.run.go.Statement.{statement}

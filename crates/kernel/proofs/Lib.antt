@@ -1,0 +1,3 @@
+pub mod Words
+pub mod Acting
+pub mod Going

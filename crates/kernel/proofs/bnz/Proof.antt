@@ -1,0 +1,86 @@
+-- `kernel::bnz` meets its contract.
+-- Assumes nothing.
+use mathlib.Core.Path.{sym, _∙_}
+use Rattle.word.proofs.Signed.{back, back-ok}
+use Rattle.kernel.proofs.Acting.{bnz-none, bnz-zero, bnz-at, bnz-below}
+use borrow.Author.Needs.{needs}
+use Rattle.kernel.proofs.bnz.Statement.{statement}
+use Rattle.kernel.proofs.bnz.Tie as tie
+
+ended-requires : tie.Need-ended-requires
+ended-requires c κs = search needs
+
+returns : tie.Need-returns
+returns c = rw (c .ended .ensures) (bnz-none _ _ _ _ _ (c .before .if1 .taken))
+
+at-requires : tie.Need-at-requires
+at-requires c κs = search needs
+
+sized-requires : tie.Need-sized-requires
+sized-requires c κs = search needs
+
+enum-known-tested : tie.Need-enum-known-tested
+enum-known-tested c = search needs
+
+add-gone : tie.Need-add-gone
+add-gone c = search needs
+
+gone-requires : tie.Need-gone-requires
+gone-requires c κs = search needs
+
+branch-requires : tie.Need-branch-requires
+branch-requires c κs = search needs
+
+enum-told : tie.Need-enum-told
+enum-told c = search needs
+
+branch-requires-2 : tie.Need-branch-requires-2
+branch-requires-2 c κs = search needs
+
+returns-2 : tie.Need-returns-2
+returns-2 c =
+    let at-tested = c .before .before .before in
+    let at-sized = at-tested .before .before in
+    let at-at = at-sized .before in
+    let at-if1 = at-at .before in
+    let start = at-if1 .before in
+    let w = sym (rw (back-ok (at-at .at .result) (at-at .at .ok), at-at .at .ensures) at (at-sized .sized .ensures)) ∙ at-tested .tested .given .1 in
+    rw (c .gone .ensures) (bnz-zero _ _ _ _ _ (at-if1 .if1 .left) w (c .before .if2 .taken))
+
+returns-3 : tie.Need-returns-3
+returns-3 c =
+    let at-tested = c .before .before .before in
+    let at-sized = at-tested .before .before in
+    let at-at = at-sized .before in
+    let at-if1 = at-at .before in
+    let start = at-if1 .before in
+    let w = sym (rw (back-ok (at-at .at .result) (at-at .at .ok), at-at .at .ensures) at (at-sized .sized .ensures)) ∙ at-tested .tested .given .1 in
+    rw (c .branch .ensures, back {z = start .args .operand} (start .fits .operand)) (bnz-at _ _ _ (start .args .operand) _ (at-if1 .if1 .left) w (c .before .if2 .left))
+
+returns-4 : tie.Need-returns-4
+returns-4 c =
+    let at-tested = c .before in
+    let at-sized = at-tested .before .before in
+    let at-at = at-sized .before in
+    let at-if1 = at-at .before in
+    let start = at-if1 .before in
+    let w = sym (rw (back-ok (at-at .at .result) (at-at .at .ok), at-at .at .ensures) at (at-sized .sized .ensures)) ∙ at-tested .enum-told .given .1 in
+    rw (c .branch2 .ensures, back {z = start .args .operand} (start .fits .operand)) (bnz-below _ _ _ (start .args .operand) _ (at-if1 .if1 .left) w)
+
+pub bnz-spec : {M : Type 1} → statement M
+bnz-spec =
+    tie.close
+    (tie.spec
+    ended-requires
+    returns
+    at-requires
+    sized-requires
+    enum-known-tested
+    add-gone
+    gone-requires
+    branch-requires
+    enum-told
+    branch-requires-2
+    returns-2
+    returns-3
+    returns-4)

@@ -1,0 +1,81 @@
+-- `kernel::branch` meets its contract.
+-- Assumes nothing.
+use borrow.Author.Tests.{lt-ltb, le-ltb, eq-eqb, ne-eqb}
+use mathlib.Core.Path.{sym, _∙_}
+use Rattle.kernel.proofs.Acting.{whole-small}
+use native.Mathlib.Omega.{arith}
+use Rattle.word.proofs.Signed.{back, back-ok}
+use borrow.Author.Needs.{needs}
+use Rattle.kernel.proofs.branch.Statement.{statement}
+use Rattle.kernel.proofs.branch.Tie as tie
+
+sized-requires : tie.Need-sized-requires
+sized-requires c κs = search needs
+
+enum-known-distance : tie.Need-enum-known-distance
+enum-known-distance c = search needs
+
+add-gone : tie.Need-add-gone
+add-gone c =
+    let at-sized = c .before .before .before .before in
+    let f = at-sized .before .fits .operand in
+    record {
+      fits =
+          omega (
+            arith,
+            at-sized .before .pre,
+            whole-small _ _ f (sym (rw (back {z = at-sized .before .args .operand} f) at (at-sized .sized .ensures)) ∙ c .before .before .distance .given .1),
+          );
+    }
+
+gone-requires : tie.Need-gone-requires
+gone-requires c κs = search needs
+
+ended-requires : tie.Need-ended-requires
+ended-requires c κs = search needs
+
+enum-known-distance-2 : tie.Need-enum-known-distance-2
+enum-known-distance-2 c = search needs
+
+ended-requires-2 : tie.Need-ended-requires-2
+ended-requires-2 c κs = search needs
+
+ended-requires-3 : tie.Need-ended-requires-3
+ended-requires-3 c κs = search needs
+
+returns : tie.Need-returns
+returns c =
+    let at-sized = c .before .before .before .before .before in
+    rw (← (rw (back {z = at-sized .before .args .operand} (at-sized .before .fits .operand)) at (at-sized .sized .ensures)), c .before .before .before .distance .given .1, lt-ltb _ _ (c .before .if1 .taken), c .gone .ensures)
+
+returns-2 : tie.Need-returns-2
+returns-2 c =
+    let at-sized = c .before .before .before .before .before in
+    rw (← (rw (back {z = at-sized .before .args .operand} (at-sized .before .fits .operand)) at (at-sized .sized .ensures)), c .before .before .before .distance .given .1, le-ltb _ _ (c .before .if1 .left), c .ended .ensures)
+
+returns-3 : tie.Need-returns-3
+returns-3 c =
+    let at-sized = c .before .before .before .before .before in
+    rw (← (rw (back {z = at-sized .before .args .operand} (at-sized .before .fits .operand)) at (at-sized .sized .ensures)), c .before .before .before .distance2 .given .1, eq-eqb _ _ (c .before .if2 .taken), c .ended2 .ensures)
+
+returns-4 : tie.Need-returns-4
+returns-4 c =
+    let at-sized = c .before .before .before .before .before in
+    rw (← (rw (back {z = at-sized .before .args .operand} (at-sized .before .fits .operand)) at (at-sized .sized .ensures)), c .before .before .before .distance2 .given .1, ne-eqb _ _ (c .before .if2 .left), c .ended3 .ensures)
+
+pub branch-spec : {M : Type 1} → statement M
+branch-spec =
+    tie.close
+    (tie.spec
+    sized-requires
+    enum-known-distance
+    add-gone
+    gone-requires
+    ended-requires
+    enum-known-distance-2
+    ended-requires-2
+    ended-requires-3
+    returns
+    returns-2
+    returns-3
+    returns-4)

@@ -1,0 +1,16 @@
+pub mod Asked
+pub mod Rules
+pub mod Seven
+pub mod Steps
+pub mod Faults
+pub mod Ruled
+pub mod Simulate
+pub mod Tags
+pub mod Whole
+pub mod Starting
+pub mod Accepted
+pub mod Acting
+pub mod Going
+pub mod Refines
+pub mod Refusals
+pub mod Both

@@ -1,0 +1,279 @@
+-- The pieces that the code reads from a table's bytes are the table's translation.
+-- Assumes nothing.
+use mathlib.Core.Path.{_≡_, refl, sym, ap, subst, _∙_}
+use mathlib.Core.Bool.{Bool, true, false}
+use mathlib.Core.List.{List, [], _∷_, _++_, map}
+use mathlib.Core.Option.{Option, none, some}
+use Prim.Native.Nat.{ℕ, zero, suc, _+_, _*_, _<_, _≤_}
+use native.Mathlib.Omega.{arith}
+use lib.IntN.{ℤ}
+use lib.Dec.{leb, ltb, eqb}
+use lib.ListN.{length, getElem?}
+use borrow.Author.Tests.{eqb-true, le-leb, lt-leb}
+use Rattle.program.specs.Command.{Opcode, opcodes}
+use Rattle.program.specs.declared.Refusal.{Refusal}
+use Rattle.policy.specs.declared.Checked.the-variants as Checked
+use Rattle.policy.specs.declared.expression.Token.{Token}
+use Rattle.policy.specs.declared.expression.Token.the-variants as Token
+use Rattle.policy.specs.Expression.{LabelExpr, empty, input1, input2, input3, join, Condition, flows, always, both, either, Rule, Table}
+use Rattle.policy.specs.Token.{tokenOf, tokenAt}
+use Rattle.policy.specs.Value.{testOf}
+use Rattle.policy.specs.Ask.{checkAnswer}
+use Rattle.policy.specs.Read.{Read, fault, found, andThen, readTwo, readIf, labelFrom, readLabel, conditionFrom, readCondition, depthLimit}
+use Rattle.policy.specs.Read.{supplies, hasResult, emptyByte, resultIf, readRuleWith, readRule, prepend, readRules}
+use Rattle.policy.specs.Read.{ReadTable, refused, table, wholeIf, whole, tableLimit, tableIf, readTable}
+use Rattle.translator.specs.declared.Translated.the-variants as Translated
+use Rattle.handler.specs.Kernel.{Instruction}
+use Rattle.handler.specs.Translate.{compileLabel, compileCondition, compileAnswer, compileIf, guarded, compileRule}
+use Rattle.handler.specs.Translate.{slots, concat, dispatch, translate}
+use Rattle.translator.specs.Emit.{Piece, piece, joinCode, flowsCode, eitherCode, partOf, labelPiece, labelCode}
+use Rattle.translator.specs.Emit.{conditionPiece, conditionCode, answerOf, answerCode, guardedOf, guardedCode, rulePiece, ruleCode}
+use Rattle.translator.specs.Emit.{bodiesAt, tableCode, putCode}
+use Rattle.translator.specs.Translated.{handlerCount, laidIf, translateOf}
+use Rattle.translator.proofs.Putting.{putCode-laid}
+
+-- a piece is the translation of what was found, with the offset after it
+abbrev Is : {A : Type 0} → (A → List Instruction) → Read A → Piece → Type 0
+Is compile (fault at) p = Unit {0}
+Is compile (found a next) p = p ≡ piece (compile a) next
+
+-- two, one after the other
+then-is : {A B C : Type 0} (compileA : A → List Instruction) (compileB : B → List Instruction) (compileC : C → List Instruction)
+    (make : A → B → C) (put : List Instruction → List Instruction → List Instruction)
+    → ((a : A) (b : B) → compileC (make a b) ≡ put (compileA a) (compileB b))
+    → (ra : Read A) (p : Piece) (readB : ℕ → Read B) (codeB : ℕ → Piece)
+    → Is compileA ra p → ((at : ℕ) → Is compileB (readB at) (codeB at))
+    → Is compileC (andThen ra (λ a next. andThen (readB next) (λ b end. found (make a b) end)))
+    (piece (put (p .code) (codeB (p .next) .code)) (codeB (p .next) .next))
+then-is cA cB cC make put law (fault at) p readB codeB e h = tt
+then-is cA cB cC make put law (found a next) p readB codeB e h = second (readB next) (h next)
+  where
+    second : (rb : Read _) → Is cB rb (codeB next)
+        → Is cC (andThen rb (λ b end. found (make a b) end)) (piece (put (p .code) (codeB (p .next) .code)) (codeB (p .next) .next))
+    second (fault at) f = tt
+    second (found b end) f =
+        ap (λ (q : Piece). piece (put (q .code) (codeB (q .next) .code)) (codeB (q .next) .next)) e
+        ∙ ap (λ (q : Piece). piece (put (cA a) (q .code)) (q .next)) f
+        ∙ ap (λ code. piece code end) (sym (law a b))
+
+-- a byte by itself
+lone-is : {A : Type 0} (compile : A → List Instruction) (b : Bool) (a : A) (at : ℕ) → Is compile (readIf b a at) (piece (compile a) (at + 1))
+lone-is compile true a at = refl
+lone-is compile false a at = tt
+
+-- ════════════════════════════════════════════════════════════════════════════════════════════
+-- Expressions
+-- ════════════════════════════════════════════════════════════════════════════════════════════
+
+module _ (n : ℕ) (s : List ℕ) where
+  label-from : (t : Token) (at : ℕ) (inner : ℕ → Read LabelExpr) (code : ℕ → Piece) → ((at : ℕ) → Is compileLabel (inner at) (code at))
+      → Is compileLabel (labelFrom t n at inner) (labelPiece (partOf t) at code)
+  label-from Token.Empty at inner code h = refl
+  label-from Token.Place at inner code h = refl
+  label-from Token.Input1 at inner code h = lone-is compileLabel (leb 1 n) input1 at
+  label-from Token.Input2 at inner code h = lone-is compileLabel (leb 2 n) input2 at
+  label-from Token.Input3 at inner code h = lone-is compileLabel (leb 3 n) input3 at
+  label-from Token.Join at inner code h =
+      then-is compileLabel compileLabel compileLabel join joinCode (λ a b. refl) (inner (at + 1)) (code (at + 1)) inner code (h (at + 1)) h
+  label-from Token.Flows at inner code h = tt
+  label-from Token.True at inner code h = tt
+  label-from Token.And at inner code h = tt
+  label-from Token.Or at inner code h = tt
+  label-from Token.Nothing at inner code h = tt
+
+  label-is : (d at : ℕ) → Is compileLabel (readLabel d n s at) (labelCode d s at)
+  unfolding readLabel labelCode
+  label-is zero at = tt
+  label-is (suc d) at = label-from (tokenAt s at) at (readLabel d n s) (labelCode d s) (label-is d)
+
+  condition-from : (t : Token) (at : ℕ) (label : ℕ → Read LabelExpr) (inner : ℕ → Read Condition) (codeL code : ℕ → Piece)
+      → ((at : ℕ) → Is compileLabel (label at) (codeL at)) → ((at : ℕ) → Is compileCondition (inner at) (code at))
+      → Is compileCondition (conditionFrom t at label inner) (conditionPiece (testOf t) at codeL code)
+  condition-from Token.Empty at label inner codeL code g h = tt
+  condition-from Token.Place at label inner codeL code g h = tt
+  condition-from Token.Input1 at label inner codeL code g h = tt
+  condition-from Token.Input2 at label inner codeL code g h = tt
+  condition-from Token.Input3 at label inner codeL code g h = tt
+  condition-from Token.Join at label inner codeL code g h = tt
+  condition-from Token.Flows at label inner codeL code g h =
+      then-is compileLabel compileLabel compileCondition flows flowsCode (λ a b. refl) (label (at + 1)) (codeL (at + 1)) label codeL (g (at + 1)) g
+  condition-from Token.True at label inner codeL code g h = refl
+  condition-from Token.And at label inner codeL code g h =
+      then-is compileCondition compileCondition compileCondition both joinCode (λ a b. refl)
+      (inner (at + 1)) (code (at + 1)) inner code (h (at + 1)) h
+  condition-from Token.Or at label inner codeL code g h =
+      then-is compileCondition compileCondition compileCondition either eitherCode (λ a b. refl)
+      (inner (at + 1)) (code (at + 1)) inner code (h (at + 1)) h
+  condition-from Token.Nothing at label inner codeL code g h = tt
+
+  condition-is : (d at : ℕ) → Is compileCondition (readCondition d n s at) (conditionCode d s at)
+  unfolding readCondition conditionCode
+  condition-is zero at = tt
+  condition-is (suc d) at =
+      condition-from (tokenAt s at) at (readLabel d n s) (readCondition d n s) (labelCode d s) (conditionCode d s) (label-is d) (condition-is d)
+
+  -- the byte 10 is a label expression too
+  empty-is : (o : Option ℕ) (at : ℕ) → getElem? s at ≡ o → Is compileLabel (emptyByte o at) (labelCode depthLimit s at)
+  unfolding labelCode tokenAt tokenOf
+  empty-is none at e = tt
+  empty-is (some b) at e = by (eqb b 0x10) refl
+    where
+      by : (x : Bool) → eqb b 0x10 ≡ x → Is compileLabel (readIf x empty at) (labelCode depthLimit s at)
+      by true d = rw (e, eqb-true b 0x10 d)
+      by false d = tt
+
+  result-is : (has : Bool) (at : ℕ) → Is compileLabel (resultIf has n s at) (labelCode depthLimit s at)
+  result-is true at = label-is depthLimit at
+  result-is false at = empty-is (getElem? s at) at refl
+
+  -- ════════════════════════════════════════════════════════════════════════════════════════════
+  -- A rule
+  -- ════════════════════════════════════════════════════════════════════════════════════════════
+
+  abbrev ruleOf : Condition → LabelExpr → LabelExpr → Rule
+  ruleOf c p r = record { allowed = c; pc = p; result = r }
+
+  module _ (has : Bool) where
+    -- what is read after a condition
+    abbrev answerRead : Condition → ℕ → Read Rule
+    answerRead c at = andThen (readLabel depthLimit n s at) (λ p at3. andThen (resultIf has n s at3) (λ r end. found (ruleOf c p r) end))
+
+    always-is : (at : ℕ) → Is compileRule (answerRead always at) (answerCode s at)
+    unfolding answerCode compileRule
+    always-is at =
+        then-is compileLabel compileLabel compileRule (ruleOf always) answerOf (λ p r. refl)
+        (readLabel depthLimit n s at) (labelCode depthLimit s at) (resultIf has n s) (labelCode depthLimit s) (label-is depthLimit at) (result-is has)
+
+    -- a condition that is tested
+    abbrev Tests : Condition → Type 0
+    Tests c = (code : List Instruction) → compileIf c code ≡ guarded c code
+
+    abbrev AllTest : Read Condition → Type 0
+    AllTest (fault at) = Unit {0}
+    AllTest (found c next) = Tests c
+
+    two-test : {A : Type 0} (read : ℕ → Read A) (make : A → A → Condition) (at : ℕ) → ((a b : A) → Tests (make a b))
+        → AllTest (readTwo read make at)
+    two-test read make at h = first (read at)
+      where
+        first : (r : Read _) → AllTest (andThen r (λ a next. andThen (read next) (λ b end. found (make a b) end)))
+        first (fault p) = tt
+        first (found a next) = second (read next)
+          where
+            second : (r : Read _) → AllTest (andThen r (λ b end. found (make a b) end))
+            second (fault p) = tt
+            second (found b end) = h a b
+
+    guarded-is : (rc : Read Condition) (at : ℕ) → Is compileCondition rc (conditionCode depthLimit s at) → AllTest rc
+        → Is compileRule (andThen rc answerRead) (guardedCode s at)
+    unfolding guardedCode answerCode compileRule
+    guarded-is (fault p) at e h = tt
+    guarded-is (found c next) at e h =
+        let guardedBy : Piece → Piece = λ q. piece (guardedOf (q .code) (answerCode s (q .next) .code)) (answerCode s (q .next) .next) in
+        subst (λ (q : Piece). Is compileRule (answerRead c next) (guardedBy q)) (sym e)
+        (then-is compileLabel compileLabel compileRule (ruleOf c) (λ x y. guardedOf (compileCondition c) (answerOf x y))
+        (λ p r. h (compileAnswer (ruleOf c p r))) (readLabel depthLimit n s next) (labelCode depthLimit s next)
+        (resultIf has n s) (labelCode depthLimit s) (label-is depthLimit next) (result-is has))
+
+    rule-from : (t : Token) (d at : ℕ)
+        → Is compileCondition (conditionFrom t at (readLabel d n s) (readCondition d n s)) (conditionCode depthLimit s at)
+        → Is compileRule (andThen (conditionFrom t at (readLabel d n s) (readCondition d n s)) answerRead) (rulePiece (testOf t) s at)
+    rule-from Token.Empty d at e = tt
+    rule-from Token.Place d at e = tt
+    rule-from Token.Input1 d at e = tt
+    rule-from Token.Input2 d at e = tt
+    rule-from Token.Input3 d at e = tt
+    rule-from Token.Join d at e = tt
+    rule-from Token.Flows d at e = guarded-is (readTwo (readLabel d n s) flows (at + 1)) at e
+        (two-test (readLabel d n s) flows (at + 1) (λ a b code. refl))
+    rule-from Token.True d at e = always-is (at + 1)
+    rule-from Token.And d at e = guarded-is (readTwo (readCondition d n s) both (at + 1)) at e
+        (two-test (readCondition d n s) both (at + 1) (λ a b code. refl))
+    rule-from Token.Or d at e = guarded-is (readTwo (readCondition d n s) either (at + 1)) at e
+        (two-test (readCondition d n s) either (at + 1) (λ a b code. refl))
+    rule-from Token.Nothing d at e = tt
+
+    rule-is : (at : ℕ) → Is compileRule (readRuleWith n has s at) (ruleCode s at)
+    unfolding readRuleWith ruleCode readCondition
+    rule-is at = rule-from (tokenAt s at) 7 at (condition-is depthLimit at)
+
+-- ════════════════════════════════════════════════════════════════════════════════════════════
+-- A table
+-- ════════════════════════════════════════════════════════════════════════════════════════════
+
+abbrev AreRules : Read Table → List (List Instruction) → Type 0
+AreRules (fault at) bodies = Unit {0}
+AreRules (found t end) bodies = bodies ≡ map compileRule t
+
+abbrev Translates : ReadTable → List Instruction → Type 0
+Translates (refused r) code = Unit {0}
+Translates (table t) code = code ≡ translate t
+
+module _ (s : List ℕ) where
+  rules-are : (os : List Opcode) (at : ℕ) → AreRules (readRules os s at) (bodiesAt (length os) s at)
+  unfolding readRules bodiesAt
+  rules-are [] at = refl
+  rules-are (o ∷ os) at = rule (readRule o s at) (rule-is (supplies o) s (hasResult o) at) (rules-are os)
+    where
+      rule : (r : Read Rule) → Is compileRule r (ruleCode s at) → ((next : ℕ) → AreRules (readRules os s next) (bodiesAt (length os) s next))
+          → AreRules (andThen r (λ r next. prepend r (readRules os s next))) (ruleCode s at .code ∷ bodiesAt (length os) s (ruleCode s at .next))
+      rule (fault p) e h = tt
+      rule (found r next) e h = rest (readRules os s next) (h next)
+        where
+          rest : (x : Read Table) → AreRules x (bodiesAt (length os) s next)
+              → AreRules (prepend r x) (ruleCode s at .code ∷ bodiesAt (length os) s (ruleCode s at .next))
+          rest (fault p) f = tt
+          rest (found t end) f =
+              ap (λ (q : Piece). q .code ∷ bodiesAt (length os) s (q .next)) e ∙ ap (λ (bs : List (List Instruction)). compileRule r ∷ bs) f
+
+  pub table-translates : Translates (readTable s) (tableCode s)
+  unfolding readTable tableCode translate
+  table-translates = limit (leb (length s) tableLimit)
+    where
+      over : (b : Bool) (t : Table) (end : ℕ) → AreRules (found t end) (bodiesAt 11 s 0) → Translates (wholeIf b t end) (tableCode s)
+      over true t end e = tt
+      over false t end e = ap (λ (bs : List (List Instruction)). dispatch ++ slots 0 bs ++ concat bs) e
+
+      rules : (x : Read Table) → AreRules x (bodiesAt 11 s 0) → Translates (whole (length s) x) (tableCode s)
+      rules (fault p) e = tt
+      rules (found t end) e = over (ltb end (length s)) t end e
+
+      limit : (b : Bool) → Translates (tableIf b s) (tableCode s)
+      limit true = rules (readRules opcodes s 0) (rules-are opcodes 0)
+      limit false = tt
+
+-- ════════════════════════════════════════════════════════════════════════════════════════════
+-- The answers
+-- ════════════════════════════════════════════════════════════════════════════════════════════
+
+pub refused-count : (x : ReadTable) (r : Refusal) → checkAnswer x ≡ Checked.Refused r → 0 ≡ handlerCount x
+refused-count (refused q) r e = refl
+refused-count (table t) r e = absurd (let z : _≡_ {A = ℕ} 0 1 = cc in omega arith)
+
+pub refused-translation : (x : ReadTable) (r : Refusal) (space : List ℤ) → checkAnswer x ≡ Checked.Refused r
+    → record { answer = Translated.Refused r; space = space } ≡ translateOf x space
+refused-translation (refused q) r space e = let d : r ≡ q = cc in rw d
+refused-translation (table t) r space e = absurd (let z : _≡_ {A = ℕ} 0 1 = cc in omega arith)
+
+module _ (code : List Instruction) where
+  pub accepted-count : (x : ReadTable) → Translates x code → checkAnswer x ≡ Checked.Accepted → length code ≡ handlerCount x
+  accepted-count (refused q) h e = absurd (let z : _≡_ {A = ℕ} 0 1 = cc in omega arith)
+  accepted-count (table t) h e = ap length h
+
+  accepted-translation : (x : ReadTable) (space : List ℤ) → Translates x code → checkAnswer x ≡ Checked.Accepted
+      → laidIf (leb (2 * length code) (length space)) code space ≡ translateOf x space
+  accepted-translation (refused q) space h e = absurd (let z : _≡_ {A = ℕ} 0 1 = cc in omega arith)
+  accepted-translation (table t) space h e = ap (λ c. laidIf (leb (2 * length c) (length space)) c space) h
+
+  module _ (x : ReadTable) (space : List ℤ) (h : Translates x code) (e : checkAnswer x ≡ Checked.Accepted) where
+    pub short-translation : length space < 2 * length code
+        → record { answer = Translated.Short (length code); space = space } ≡ translateOf x space
+    short-translation l =
+        ap (λ b. laidIf b code space) (sym (lt-leb (2 * length code) (length space) l)) ∙ accepted-translation x space h e
+
+    pub written-translation : 2 * length code ≤ length space → (after : List ℤ) → after ≡ putCode 0 code space
+        → record { answer = Translated.Written (length code); space = after } ≡ translateOf x space
+    written-translation l after d =
+        ap (λ (w : List ℤ). record { answer = Translated.Written (length code); space = w }) (d ∙ putCode-laid code space l)
+        ∙ ap (λ b. laidIf b code space) (sym (le-leb (2 * length code) (length space) l))
+        ∙ accepted-translation x space h e

@@ -1,0 +1,373 @@
+// The translator: from a rule table's bytes into the handler space. Read specs/Translated.antt first; Emit says what the code stores.
+ghost use mathlib.Core.Path.{_≡_};
+ghost use Prim.Native.Nat.{_+_, _*_, _≤_, _^_};
+ghost use lib.ListN.{length};
+ghost use Rattle.policy.specs.Read.{readTable};
+ghost use Rattle.translator.specs.Emit.{partOf, twoPieces, joinCode, flowsCode, eitherCode, labelCode, conditionCode};
+ghost use Rattle.translator.specs.Emit.{answerCode, guardedCode, ruleCode, tableCode, putAll, putCode, Emitted};
+ghost use Rattle.translator.specs.Translated.{handlerCount, translateOf};
+use policy::Checked;
+use policy::check_table;
+use policy::expression::Test;
+use policy::expression::Token;
+use policy::expression::test_of;
+use policy::expression::token_of;
+use program::Refusal;
+use word::memory::at;
+use word::memory::put;
+
+// The answer to a translation: so many instructions were written, or would not fit, or the bytes are no table.
+pub enum Translated {
+    Written(usize),
+    Short(usize),
+    Refused(Refusal),
+}
+
+// Where a translation stands: the offset of the next byte, and the place of the next instruction.
+struct Mark {
+    next: usize,
+    position: usize,
+}
+
+// A byte where a label expression is to stand: the empty label, a word of the row, a join of two, or no label expression.
+enum Part {
+    Empty,
+    Word(usize),
+    Join,
+    Nothing,
+}
+
+fn part_of(token: Token) -> Part
+    ensures { λ r. ⌜ r ≡ partOf token ⌝ }
+{
+    match token {
+        Token::Empty => Part::Empty,
+        Token::Place => Part::Word(1),
+        Token::Input1 => Part::Word(2),
+        Token::Input2 => Part::Word(3),
+        Token::Input3 => Part::Word(4),
+        Token::Join => Part::Join,
+        Token::Flows => Part::Nothing,
+        Token::True => Part::Nothing,
+        Token::And => Part::Nothing,
+        Token::Or => Part::Nothing,
+        Token::Nothing => Part::Nothing,
+    }
+}
+
+// Instructions from a place on: for each its code, and its operand or 0.
+fn emit(space: &mut [i64], position: usize, words: &[i64])
+    requires { ⌜ (position ≤ 2 ^ 20) × (length (now words) ≤ 2 ^ 10) ⌝ }
+    ensures { λ _. ⌜ now (space .exit) ≡ putAll (2 * position) (now (words .entry)) (now (space .entry)) ⌝ }
+{
+    let mut i: usize = 0;
+    while i < words.len() {
+        put(space, 2 * position + i, at(words, i));
+        i += 1;
+    }
+}
+
+// ════════════════════════════════════════════════════════════════════════════════════════════
+// Expressions
+// ════════════════════════════════════════════════════════════════════════════════════════════
+
+// The offset after a label expression.
+fn skip_label(bytes: &[u8], at: usize, depth: usize) -> usize
+    ensures { λ r. ⌜ r ≡ labelCode depth (now (bytes .entry)) at .next ⌝ }
+{
+    if depth == 0 {
+        return at;
+    }
+    if bytes.len() <= at {
+        return at;
+    }
+    let next = at + 1;
+    let part = part_of(token_of(bytes[at]));
+    match part {
+        Part::Empty => next,
+        Part::Word(_) => next,
+        Part::Join => {
+            let second = skip_label(bytes, next, depth - 1);
+            skip_label(bytes, second, depth - 1)
+        }
+        Part::Nothing => at,
+    }
+}
+
+// A label on the stack.
+fn emit_label(bytes: &[u8], mark: Mark, depth: usize, space: &mut [i64]) -> Mark
+    requires { ⌜ mark .position + 3 * 2 ^ depth ≤ 2 ^ 20 ⌝ }
+    ensures { λ r. ⌜ Emitted (labelCode depth (now (bytes .entry))) mark (now (space .entry)) r (now (space .exit)) ⌝ }
+{
+    if depth == 0 {
+        return mark;
+    }
+    let at = mark.next;
+    if bytes.len() <= at {
+        return mark;
+    }
+    let position = mark.position;
+    let next = at + 1;
+    let part = part_of(token_of(bytes[at]));
+    match part {
+        Part::Empty => {
+            let zero = [0x05, 0];
+            emit(space, position, &zero);
+            Mark {
+                next,
+                position: position + 1,
+            }
+        }
+        Part::Word(address) => {
+            let read = [0x05, address as i64, 0x06, 0];
+            emit(space, position, &read);
+            Mark {
+                next,
+                position: position + 2,
+            }
+        }
+        Part::Join => emit_join(bytes, Mark { next, position }, depth - 1, space),
+        Part::Nothing => mark,
+    }
+}
+
+// The join of two labels.
+fn emit_join(bytes: &[u8], mark: Mark, depth: usize, space: &mut [i64]) -> Mark
+    requires { ⌜ mark .position + 6 * 2 ^ depth ≤ 2 ^ 20 ⌝ }
+    ensures { λ r. ⌜ Emitted (twoPieces joinCode (labelCode depth (now (bytes .entry)))) mark (now (space .entry)) r (now (space .exit)) ⌝ }
+{
+    let first = emit_label(bytes, mark, depth, space);
+    let second = emit_label(bytes, first, depth, space);
+    let position = second.position;
+    let or = [0x0c, 0];
+    emit(space, position, &or);
+    Mark {
+        next: second.next,
+        position: position + 1,
+    }
+}
+
+// Whether a label flows to a second, which comes first on the stack: their join less the second.
+fn emit_flows(bytes: &[u8], mark: Mark, depth: usize, space: &mut [i64]) -> Mark
+    requires { ⌜ mark .position + 6 * 2 ^ depth + 3 ≤ 2 ^ 20 ⌝ }
+    ensures { λ r. ⌜ Emitted (twoPieces flowsCode (labelCode depth (now (bytes .entry)))) mark (now (space .entry)) r (now (space .exit)) ⌝ }
+{
+    let start = mark.next;
+    let after = skip_label(bytes, start, depth);
+    let second = Mark {
+        next: after,
+        position: mark.position,
+    };
+    let target = emit_label(bytes, second, depth, space);
+    let place = target.position;
+    let dup = [0x0d, 0];
+    emit(space, place, &dup);
+    let behind = place + 1;
+    let first = Mark {
+        next: start,
+        position: behind,
+    };
+    let source = emit_label(bytes, first, depth, space);
+    let position = source.position;
+    let less = [0x0c, 0, 0x02, 0];
+    emit(space, position, &less);
+    let end = position + 2;
+    Mark {
+        next: target.next,
+        position: end,
+    }
+}
+
+// A number on the stack that is 0 where a yes/no expression holds.
+fn emit_condition(bytes: &[u8], mark: Mark, depth: usize, space: &mut [i64]) -> Mark
+    requires { ⌜ mark .position + 8 * 2 ^ depth ≤ 2 ^ 20 ⌝ }
+    ensures { λ r. ⌜ Emitted (conditionCode depth (now (bytes .entry))) mark (now (space .entry)) r (now (space .exit)) ⌝ }
+{
+    if depth == 0 {
+        return mark;
+    }
+    let at = mark.next;
+    if bytes.len() <= at {
+        return mark;
+    }
+    let position = mark.position;
+    let next = at + 1;
+    let test = test_of(token_of(bytes[at]));
+    match test {
+        Test::True => {
+            let zero = [0x05, 0];
+            emit(space, position, &zero);
+            Mark {
+                next,
+                position: position + 1,
+            }
+        }
+        Test::Flows => emit_flows(bytes, Mark { next, position }, depth - 1, space),
+        Test::And => emit_both(bytes, Mark { next, position }, depth - 1, space),
+        Test::Or => emit_either(bytes, Mark { next, position }, depth - 1, space),
+        Test::Nothing => mark,
+    }
+}
+
+// Both hold where the two numbers have no bit.
+fn emit_both(bytes: &[u8], mark: Mark, depth: usize, space: &mut [i64]) -> Mark
+    requires { ⌜ mark .position + 16 * 2 ^ depth ≤ 2 ^ 20 ⌝ }
+    ensures { λ r. ⌜ Emitted (twoPieces joinCode (conditionCode depth (now (bytes .entry)))) mark (now (space .entry)) r (now (space .exit)) ⌝ }
+{
+    let first = emit_condition(bytes, mark, depth, space);
+    let second = emit_condition(bytes, first, depth, space);
+    let position = second.position;
+    let bits = [0x0c, 0];
+    emit(space, position, &bits);
+    Mark {
+        next: second.next,
+        position: position + 1,
+    }
+}
+
+// Where the first holds 0 stays, and the second is passed over; the branch over it is stored when its length is known.
+fn emit_either(bytes: &[u8], mark: Mark, depth: usize, space: &mut [i64]) -> Mark
+    requires { ⌜ mark .position + 16 * 2 ^ depth ≤ 2 ^ 20 ⌝ }
+    ensures { λ r. ⌜ Emitted (twoPieces eitherCode (conditionCode depth (now (bytes .entry)))) mark (now (space .entry)) r (now (space .exit)) ⌝ }
+{
+    let first = emit_condition(bytes, mark, depth, space);
+    let place = first.position;
+    let behind = Mark {
+        next: first.next,
+        position: place + 4,
+    };
+    let second = emit_condition(bytes, behind, depth, space);
+    let over = second.position - place - 3;
+    let branches = [0x09, 4, 0x05, 0, 0x05, 1, 0x09, over as i64];
+    emit(space, place, &branches);
+    second
+}
+
+// ════════════════════════════════════════════════════════════════════════════════════════════
+// Rules
+// ════════════════════════════════════════════════════════════════════════════════════════════
+
+// Both labels of a rule, stored into the words 6 and 5 of the row.
+fn emit_answer(bytes: &[u8], mark: Mark, space: &mut [i64]) -> Mark
+    requires { ⌜ mark .position + 2048 ≤ 2 ^ 20 ⌝ }
+    ensures { λ r. ⌜ Emitted (answerCode (now (bytes .entry))) mark (now (space .entry)) r (now (space .exit)) ⌝ }
+{
+    let place = emit_label(bytes, mark, 8, space);
+    let result = emit_label(bytes, place, 8, space);
+    let position = result.position;
+    let stores = [0x05, 6, 0x07, 0, 0x05, 5, 0x07, 0, 0x0b, 0];
+    emit(space, position, &stores);
+    Mark {
+        next: result.next,
+        position: position + 5,
+    }
+}
+
+// A rule with a condition: where it does not hold, the answer is passed over to the jump to -1.
+fn emit_guarded(bytes: &[u8], mark: Mark, space: &mut [i64]) -> Mark
+    requires { ⌜ mark .position + 8192 ≤ 2 ^ 20 ⌝ }
+    ensures { λ r. ⌜ Emitted (guardedCode (now (bytes .entry))) mark (now (space .entry)) r (now (space .exit)) ⌝ }
+{
+    let condition = emit_condition(bytes, mark, 8, space);
+    let place = condition.position;
+    let behind = Mark {
+        next: condition.next,
+        position: place + 1,
+    };
+    let answer = emit_answer(bytes, behind, space);
+    let position = answer.position;
+    let over = position - place;
+    let branch = [0x09, over as i64];
+    emit(space, place, &branch);
+    let denial = [0x05, -1, 0x08, 0];
+    emit(space, position, &denial);
+    Mark {
+        next: answer.next,
+        position: position + 2,
+    }
+}
+
+// A rule; one that always allows tests nothing.
+fn emit_rule(bytes: &[u8], mark: Mark, space: &mut [i64]) -> Mark
+    requires { ⌜ mark .position + 8192 ≤ 2 ^ 20 ⌝ }
+    ensures { λ r. ⌜ Emitted (ruleCode (now (bytes .entry))) mark (now (space .entry)) r (now (space .exit)) ⌝ }
+{
+    let at = mark.next;
+    if bytes.len() <= at {
+        return mark;
+    }
+    let position = mark.position;
+    let test = test_of(token_of(bytes[at]));
+    match test {
+        Test::True => {
+            let next = at + 1;
+            emit_answer(bytes, Mark { next, position }, space)
+        }
+        Test::Flows => emit_guarded(bytes, mark, space),
+        Test::And => emit_guarded(bytes, mark, space),
+        Test::Or => emit_guarded(bytes, mark, space),
+        Test::Nothing => mark,
+    }
+}
+
+// ════════════════════════════════════════════════════════════════════════════════════════════
+// Tables
+// ════════════════════════════════════════════════════════════════════════════════════════════
+
+// A whole handler; it has so many instructions. First the computed jump; a slot branches to where its rule's instructions start.
+fn emit_table(bytes: &[u8], space: &mut [i64]) -> usize
+    ensures count { λ r. ⌜ r ≡ length (tableCode (now (bytes .entry))) ⌝ }
+    ensures written { λ r. ⌜ now (space .exit) ≡ putCode 0 (tableCode (now (bytes .entry))) (now (space .entry)) ⌝ }
+{
+    let dispatch = [0x05, 0, 0x06, 0, 0x0d, 0, 0x05, 5, 0x01, 0, 0x08, 0];
+    emit(space, 0, &dispatch);
+    let mut mark = Mark {
+        next: 0,
+        position: 17,
+    };
+    let mut i: usize = 0;
+    while i < 11 {
+        let slot = 6 + i;
+        let ahead = mark.position - slot;
+        let branch = [0x09, ahead as i64];
+        emit(space, slot, &branch);
+        mark = emit_rule(bytes, mark, space);
+        i += 1;
+    }
+    mark.position
+}
+
+// How many instructions the handler of a table's bytes has: those that are stored into a space of one word, where there is room for none.
+fn measured(bytes: &[u8]) -> usize
+    ensures { λ r. ⌜ r ≡ length (tableCode (now (bytes .entry))) ⌝ }
+{
+    let mut none = [0i64; 1];
+    emit_table(bytes, &mut none)
+}
+
+pub fn count(bytes: &[u8]) -> usize
+    ensures { λ r. ⌜ r ≡ handlerCount (readTable (now (bytes .entry))) ⌝ }
+{
+    let checked = check_table(bytes);
+    match checked {
+        Checked::Accepted => measured(bytes),
+        Checked::Refused(_) => 0,
+    }
+}
+
+pub fn translate(bytes: &[u8], space: &mut [i64]) -> Translated
+    ensures { λ r. ⌜ record { answer = r; space = now (space .exit) } ≡ translateOf (readTable (now (bytes .entry))) (now (space .entry)) ⌝ }
+{
+    let checked = check_table(bytes);
+    match checked {
+        Checked::Refused(refusal) => Translated::Refused(refusal),
+        Checked::Accepted => {
+            let count = measured(bytes);
+            if space.len() < 2 * count {
+                return Translated::Short(count);
+            }
+            emit_table(bytes, space);
+            Translated::Written(count)
+        }
+    }
+}
