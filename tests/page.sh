@@ -1,0 +1,45 @@
+#!/usr/bin/env bash
+# The program `page` on the cases of tests/page/. A case is a file of three parts: lines that begin with # say what it shows; lines
+# that begin with 'job:' hold the job in hexadecimal bytes, where N*( .. ) repeats what stands between N times; what follows the line
+# 'page:' is what `page` must print. Needs target/bin/page (rt check page).
+set -u
+cd "$(dirname "$0")/.." || exit 2
+page=target/bin/page
+[ -x "$page" ] || { echo "$page is missing: rt check page" >&2; exit 1; }
+scratch=$(mktemp -d)
+trap 'rm -rf "$scratch"' EXIT
+failed=0
+cases=0
+
+# the bytes of the job of a case, written as C escapes for printf
+bytes() {
+    sed -n 's/^job://p' "$1" | awk '
+        { text = text " " $0 }
+        END {
+            n = split(text, w, " ")
+            for (i = 1; i <= n; i++) {
+                if (w[i] ~ /^[0-9]+\*\($/) { count = w[i] + 0; inside = 1; part = "" }
+                else if (w[i] == ")") { for (k = 0; k < count; k++) printf "%s", part; inside = 0 }
+                else if (inside) part = part "\\x" w[i]
+                else printf "\\x%s", w[i]
+            }
+        }'
+}
+
+for case in tests/page/*.case; do
+    cases=$((cases + 1))
+    bytes "$case" > "$scratch/escapes"
+    printf "$(cat "$scratch/escapes")" > "$scratch/job"
+    sed '1,/^page:$/d' "$case" > "$scratch/want"
+    if ! "$page" < "$scratch/job" > "$scratch/got"; then
+        echo "$case: page ended with a failure"
+        failed=$((failed + 1))
+    elif ! cmp -s "$scratch/want" "$scratch/got"; then
+        echo "$case: page prints something else:"
+        diff "$scratch/want" "$scratch/got" | head -n 6
+        failed=$((failed + 1))
+    fi
+done
+
+echo "page: $((cases - failed)) of $cases cases"
+[ "$cases" -gt 0 ] && [ "$failed" -eq 0 ]
