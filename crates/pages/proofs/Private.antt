@@ -1,21 +1,19 @@
 -- Demand 3 for pages (specs/Claim.antt): a page is the text of its reader's view of the run's lines.
 -- Assumes nothing.
-use mathlib.Core.Path.{_≡_, refl, sym, ap, ap₂, subst, _∙_}
+use mathlib.Core.Path.{_≡_, refl, sym, ap, subst, _∙_}
 use mathlib.Core.Bool.{Bool, true, false}
 use mathlib.Core.List.{List, [], _∷_, _++_}
 use Prim.Native.Nat.{ℕ}
 use native.Mathlib.Omega.{arith}
-use lib.ListN.{length, drop, length-replicate}
-use lib.IntN.{ℤ, pos}
+use lib.ListN.{length, drop}
 use Rattle.label.specs.Label.{InRange, flows}
 use Rattle.program.specs.declared.Command.{Command}
 use Rattle.program.specs.Decode.{decode}
 use Rattle.machine.specs.Atom.{Line}
 use Rattle.machine.specs.Rule.{standard}
-use Rattle.machine.specs.State.{State}
 use Rattle.machine.specs.Run.{run}
 use Rattle.machine.specs.Holds.{Each, LineHas, LabelsInRange}
-use Rattle.machine.specs.Claim.{keep, view, Alike}
+use Rattle.machine.specs.Claim.{keep, view}
 use Rattle.machine.proofs.Holds.{run-range, standard-range}
 use Rattle.step.specs.Words.{choose}
 use Rattle.plain.specs.Plain.{room, begin}
@@ -34,10 +32,10 @@ use Rattle.privacy.specs.Claim.{Ran, onTagged, linesIn, cellsIn}
 use Rattle.privacy.proofs.Private.{lines-laid, runs-private}
 use Rattle.report.specs.Job.{Heard, Ending, sheet, readJob}
 use Rattle.report.specs.Job as Job
-use Rattle.report.specs.Lines.{lineText, shownText, linesText}
+use Rattle.report.specs.Lines.{lineText, linesText}
 use Rattle.report.specs.Page.{zeros, answerText, endedText, runText, readingText, pageOf}
 use Rattle.report.proofs.Paging.{text-lines}
-use Rattle.pages.specs.Claim.{readerOf, cellsGiven, sheetFrom, sheetOf, Fate, answered, lent, endOf, fateFrom, fateOf}
+use Rattle.pages.specs.Claim.{readerOf, cellsGiven, sheetFrom, sheetOf, answered, lent, endOf, fateFrom, fateOf}
 use Rattle.pages.specs.Claim.{OneStartsOther, Claim, Says, Unrun}
 use Rattle.pages.specs.Claim as Pages
 use Rattle.pages.proofs.Starts.{texts, texts-starts}
