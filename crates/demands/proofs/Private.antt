@@ -28,7 +28,7 @@ lines-before : (ls : List Line) (numbers marks : List ℤ) → linesOf (length l
 lines-before [] numbers marks = refl
 lines-before (l ∷ ls) numbers marks = ap (λ x. l ∷ x) (lines-before ls numbers marks)
 
-lines-laid : (ls : List Line) (numbers marks : List ℤ)
+pub lines-laid : (ls : List Line) (numbers marks : List ℤ)
     → linesOf (length ls) (laid (lineNumbers ls) numbers) (laid (lineLabels ls) marks) ≡ ls
 unfolding laid
 lines-laid ls numbers marks = lines-before ls _ _

@@ -22,8 +22,8 @@ use Rattle.policy.specs.Row.{acceptedRow}
 use Rattle.handler.specs.Kernel.{orWord, effect, handle}
 use Rattle.handler.specs.Kernel as Kernel
 use Rattle.handler.specs.Translate.{compileRule, translate}
-use Rattle.tagged.specs.Consult.{matches, consult}
-use Rattle.tagged.specs.Run.{tagStep, tagRun}
+use Rattle.tagging.specs.Consult.{matches, consult}
+use Rattle.tagging.specs.Run.{tagStep, tagRun}
 use Rattle.tagged.specs.Start.{startLimits, startOf}
 use Rattle.tagged.specs.Tagged.{tagged}
 use Rattle.report.specs.Job.{fourAt, itemAt, readFrom, readJob}

@@ -20,7 +20,7 @@ use Rattle.plain.specs.Plain.{Memory, memory}
 use Rattle.policy.specs.Expression.{Table}
 use Rattle.policy.specs.Standard.{standardBytes}
 use Rattle.tagged.specs.declared.Answer.{Answer}
-use Rattle.tagged.specs.Run.{Result}
+use Rattle.tagging.specs.Run.{Result}
 use Rattle.tagged.specs.Start.{Started, accepted, startOf}
 use Rattle.tagged.specs.Tagged.{Ended, ended, result, outcomeOf, tagged}
 use Rattle.report.specs.declared.job.Item.{Item}

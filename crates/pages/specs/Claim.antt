@@ -1,0 +1,98 @@
+-- Demand 3 for pages: what the page of a job tells its reader. This file states it; proofs/Private.antt shows it.
+use Prim.Native.Nat.{ℕ}
+use mathlib.Core.Path.{_≡_}
+use mathlib.Core.Logic.{_⊎_}
+use mathlib.Core.List.{List, []}
+use lib.ListN.{length, take, drop}
+use Rattle.machine.specs.Atom.{Atom}
+use Rattle.machine.specs.Claim.{Alike}
+use Rattle.step.specs.Layout.{cellsOf}
+use Rattle.plain.specs.Plain.{Memory, memory}
+use Rattle.policy.specs.Standard.{standardBytes}
+use Rattle.tagged.specs.declared.Answer.{Answer}
+use Rattle.tagged.specs.declared.Answer.the-variants as Answer
+use Rattle.tagged.specs.Tagged.{Ended, tagged}
+use Rattle.report.specs.Job.{Heard, Ending, sheet, readJob}
+use Rattle.report.specs.Job as Job
+use Rattle.report.specs.Lines.{jobText, refusedText}
+use Rattle.report.specs.Page.{zeros, pageOf}
+
+-- ════════════════════════════════════════════════════════════════════════════════════════════
+-- What a job says
+-- ════════════════════════════════════════════════════════════════════════════════════════════
+
+abbrev pub readerOf : List ℕ → ℕ
+readerOf job = readJob job .heard .reader
+
+abbrev pub allowanceOf : List ℕ → ℕ
+allowanceOf job = readJob job .heard .allowance
+
+-- the cells that it gives
+abbrev pub cellsGiven : List ℕ → List Atom
+cellsGiven job = cellsOf (readJob job .heard .values) (readJob job .heard .labels)
+
+-- the rest after 43; a bad job has no sheet
+abbrev pub sheetFrom : List ℕ → Ending → List ℕ
+sheetFrom job (Job.bad offset) = []
+sheetFrom job (sheet start) = drop start job
+
+abbrev pub sheetOf : List ℕ → List ℕ
+sheetOf job = sheetFrom job (readJob job .ending)
+
+-- ════════════════════════════════════════════════════════════════════════════════════════════
+-- What becomes of it
+-- ════════════════════════════════════════════════════════════════════════════════════════════
+
+-- bad at an offset; refused with a number and a place; or its sheet is run
+pub data Fate : Type 0 where
+  bad : ℕ → Fate
+  refused : ℕ → ℕ → Fate
+  ran : Fate
+
+abbrev pub answered : Answer → Fate
+answered (Answer.Refused r) = refused (r .code) (r .position)
+answered (Answer.Stopped x) = ran
+
+-- the spaces that the page program lends
+abbrev pub lent : Heard → Memory
+lent h = memory (h .values) (h .labels) (zeros 8192) (zeros 768) (zeros 1024) (zeros 1024)
+
+-- the tag engine with the standard table and an empty rule memory
+abbrev pub endOf : Heard → List ℕ → Ended
+endOf h bytes = tagged bytes standardBytes (zeros 7) (lent h) (zeros 302) (h .allowance)
+
+abbrev pub fateFrom : List ℕ → Heard → Ending → Fate
+fateFrom job h (Job.bad offset) = bad offset
+fateFrom job h (sheet start) = answered (endOf h (drop start job) .answer)
+
+unfoldable pub fateOf : List ℕ → Fate
+fateOf job = fateFrom job (readJob job .heard) (readJob job .ending)
+
+-- ════════════════════════════════════════════════════════════════════════════════════════════
+-- The claims
+-- ════════════════════════════════════════════════════════════════════════════════════════════
+
+-- of two texts one is the start of the other
+abbrev pub Start : List ℕ → List ℕ → Type 0
+Start xs ys = xs ≡ take (length xs) ys
+
+abbrev pub OneStartsOther : List ℕ → List ℕ → Type 0
+OneStartsOther xs ys = Start xs ys ⊎ Start ys xs
+
+-- two jobs that are run, with the same sheet and reader's set and with cells that are alike for that set, whatever their allowances: of
+-- the two pages one is the start of the other
+abbrev pub Claim : Type 0
+Claim =
+    (job₁ job₂ : List ℕ) → fateOf job₁ ≡ ran → fateOf job₂ ≡ ran →
+    sheetOf job₁ ≡ sheetOf job₂ → readerOf job₁ ≡ readerOf job₂ →
+    Alike (readerOf job₁) (cellsGiven job₁) (cellsGiven job₂) →
+    OneStartsOther (pageOf job₁) (pageOf job₂)
+
+-- a job that is not run prints one line, which says so and nothing else
+abbrev pub Says : List ℕ → Fate → Type 0
+Says page (bad offset) = page ≡ jobText offset
+Says page (refused number place) = page ≡ refusedText number place
+Says page ran = Unit
+
+abbrev pub Unrun : Type 0
+Unrun = (job : List ℕ) → Says (pageOf job) (fateOf job)
