@@ -3,6 +3,8 @@
 
 pub mod backend;
 pub mod compare;
+#[cfg(feature = "engine")]
+pub mod engine;
 pub mod generate;
 pub mod privacy;
 pub mod random;

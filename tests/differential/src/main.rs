@@ -1,16 +1,22 @@
 //! `differential [WHAT] [SEED] [COUNT] [FIRST]`: WHAT is `engines` (default: engines against the model) or `privacy`.
 //! A failing case prints its seed and number; COUNT 1 with FIRST that number makes it again alone.
 
-use differential::backend::{Backend, Itself};
+use differential::backend::Backend;
 use differential::compare::compare_case;
 use differential::privacy::{privacy_case, Pairs};
 use differential::tally::Tally;
 use std::process::ExitCode;
 use std::time::Instant;
 
+#[cfg(feature = "engine")]
 fn engine() -> Box<dyn Backend> {
-    eprintln!("no engine is linked: the model is held against itself");
-    Box::new(Itself)
+    Box::new(differential::engine::Engine)
+}
+
+#[cfg(not(feature = "engine"))]
+fn engine() -> Box<dyn Backend> {
+    eprintln!("built without the feature `engine`: the model is held against itself");
+    Box::new(differential::backend::Itself)
 }
 
 /// Runs the cases until one fails; then what was missed, unless it was a look at a few cases only.
