@@ -3,6 +3,7 @@
 use crate::backend::{Answer, Backend, PAGE_LIMIT};
 use crate::generate::{job, start, Start};
 use crate::random::Random;
+use crate::shrink::shrink;
 use crate::tally::Tally;
 use model::engine::{judged, tagged, Handler, Lent};
 use model::page::page;
@@ -125,10 +126,20 @@ pub fn compare_case(backend: &dyn Backend, seed: u64, case: u64, tally: &mut Tal
         return compare_page(backend, &mut random, tally)
             .map_err(|difference| format!("seed {seed} case {case}: {difference}"));
     }
-    let start = start(&mut random, |table| backend.handler_count(table));
-    compare_plain(backend, &start, tally)
-        .and_then(|()| compare_tagged(backend, &start, tally))
-        .map_err(|difference| format!("seed {seed} case {case}: {difference}\n{}", describe(&start)))
+    let handler_count = |table: &[u8]| backend.handler_count(table);
+    let start = start(&mut random, handler_count);
+    compare_start(backend, &start, tally).map_err(|difference| {
+        let fails = |start: &Start| compare_start(backend, start, &mut Tally::default()).is_err();
+        let least = shrink(start, handler_count, fails);
+        let least_difference = compare_start(backend, &least, &mut Tally::default());
+        let least_difference = least_difference.err().unwrap_or_default();
+        format!("seed {seed} case {case}: {difference}\nsmaller: {least_difference}\n{}", describe(&least))
+    })
+}
+
+fn compare_start(backend: &dyn Backend, start: &Start, tally: &mut Tally) -> Result<(), String> {
+    compare_plain(backend, start, tally)?;
+    compare_tagged(backend, start, tally)
 }
 
 /// A start in words that a person can follow.

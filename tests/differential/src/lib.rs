@@ -8,4 +8,5 @@ pub mod engine;
 pub mod generate;
 pub mod privacy;
 pub mod random;
+pub mod shrink;
 pub mod tally;
