@@ -6,7 +6,7 @@ use crate::random::Random;
 use crate::shrink::shrink;
 use crate::tally::Tally;
 use model::engine::{judged, tagged, Handler, Lent};
-use model::page::page;
+use model::page::{page, read};
 use model::rules::{standard, Question, Table, STANDARD};
 
 /// Which lent words differ, if any do.
@@ -56,7 +56,8 @@ fn compare_plain(backend: &dyn Backend, start: &Start, tally: &mut Tally) -> Res
 
 fn compare_tagged(backend: &dyn Backend, start: &Start, tally: &mut Tally) -> Result<(), String> {
     let count = backend.handler_count(&start.table) as usize;
-    let is_table = Table::parse(&start.table).is_ok();
+    let table = Table::read(&start.table);
+    let is_table = table.is_ok();
     if is_table != (1..=model::kernel::COMMANDS).contains(&count) {
         return Err(format!("handler count {count}, table: {is_table}"));
     }
@@ -72,8 +73,13 @@ fn compare_tagged(backend: &dyn Backend, start: &Start, tally: &mut Tally) -> Re
     let answer = Answer::from(model.answer);
     tally.tagged.note(&answer);
     if answer.words[0] == 0 {
-        tally.other_tables += u64::from(start.table != STANDARD);
+        if let (Ok(table), true) = (&table, start.table != STANDARD) {
+            tally.other_table(table, count);
+        }
         tally.filled_memories += u64::from(start.lent.rule_memory.iter().any(|&word| word != 0));
+    }
+    if let (6, Err((fault, _))) = (answer.words[0], table) {
+        tally.table_fault(fault);
     }
     same("tagged", (engine, &by_engine), (answer, &by_model))
 }
@@ -108,10 +114,10 @@ fn compare_page(backend: &dyn Backend, random: &mut Random, tally: &mut Tally) -
     if buffer[expected.len()..].iter().any(|&byte| byte != filling) {
         return Err("page: bytes after the page are not as they came".into());
     }
-    match expected.as_bytes().first() {
-        Some(b'j') => tally.job_faults += 1,
-        Some(b'r') => tally.job_refusals += 1,
-        _ => {
+    match read(&job) {
+        Err((fault, _)) => tally.job_fault(fault),
+        Ok(_) if expected.starts_with("refused") => tally.job_refusals += 1,
+        Ok(_) => {
             tally.pages += 1;
             tally.page_bytes += expected.len() as u64;
         }

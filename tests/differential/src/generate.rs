@@ -3,7 +3,9 @@
 
 use crate::random::Random;
 use model::engine::Lent;
-use model::rules::{result_is_empty, LabelTree, Question, Rule, Table, YesNoTree, STANDARD, TABLE_BYTES};
+use model::rules::{
+    result_is_empty, LabelTree, Question, Rule, Table, YesNoTree, DEPTH, STANDARD, TABLE_BYTES,
+};
 use model::sheet::{decode, encode, inputs_of, Command, Command::*};
 use model::{Atom, Label};
 
@@ -407,6 +409,66 @@ fn deep_label(random: &mut Random, depth: usize, inputs: usize) -> LabelTree {
     }
 }
 
+/// Makes a leaf of a label expression a join, two bytes longer, unless it stands eight deep.
+fn grow_label(random: &mut Random, tree: &mut LabelTree, depth: usize, inputs: usize) {
+    match tree {
+        LabelTree::Join(left, right) => {
+            let side = if random.percent(50) { left } else { right };
+            grow_label(random, side, depth + 1, inputs)
+        }
+        _ if depth < DEPTH => {
+            let other = label_tree(random, 1, inputs);
+            *tree = LabelTree::Join(tree.clone().into(), other.into());
+        }
+        _ => {}
+    }
+}
+
+/// The same for a yes/no expression, whose leaves may become any operator.
+fn grow_yes_no(random: &mut Random, tree: &mut YesNoTree, depth: usize, inputs: usize) {
+    match tree {
+        YesNoTree::And(left, right) | YesNoTree::Or(left, right) => {
+            let side = if random.percent(50) { left } else { right };
+            grow_yes_no(random, side, depth + 1, inputs)
+        }
+        YesNoTree::Flows(from, to) => {
+            let side = if random.percent(50) { from } else { to };
+            grow_label(random, side, depth + 1, inputs)
+        }
+        YesNoTree::True if depth < DEPTH => {
+            let yes = Box::new(YesNoTree::True);
+            *tree = match random.below(3) {
+                0 => YesNoTree::And(yes.clone(), yes),
+                1 => YesNoTree::Or(yes.clone(), yes),
+                _ => YesNoTree::Flows(label_tree(random, 1, inputs), label_tree(random, 1, inputs)),
+            };
+        }
+        YesNoTree::True => {}
+    }
+}
+
+/// A table of so many bytes, or a little fewer. Expressions have odd lengths, so that a table never has 512.
+fn grown_table(random: &mut Random, length: usize) -> Vec<u8> {
+    let mut table = Table::parse(&STANDARD).expect("the standard table is a table");
+    let mut bytes = table.bytes();
+    for _ in 0..1000 {
+        if bytes.len() >= length {
+            break;
+        }
+        let index = random.below(11);
+        let code = index as u8 + 1;
+        let inputs = inputs_of(code);
+        let rule = &mut table.rules[index];
+        match random.below(3) {
+            0 => grow_yes_no(random, &mut rule.allowed, 1, inputs),
+            1 if !result_is_empty(code) => grow_label(random, &mut rule.result, 1, inputs),
+            _ => grow_label(random, &mut rule.place, 1, inputs),
+        }
+        bytes = table.bytes();
+    }
+    bytes
+}
+
 /// Puts a random expression in a place of a rule, where one is free.
 fn change_rule(random: &mut Random, rule: &mut Rule, code: u8) {
     let inputs = inputs_of(code);
@@ -432,7 +494,7 @@ fn tree_table(random: &mut Random) -> Table {
 
 /// A rule table's bytes: standard, another, or none.
 pub fn table(random: &mut Random) -> Vec<u8> {
-    match random.weighted(&[45, 40, 10, 3, 2]) {
+    match random.weighted(&[45, 38, 10, 3, 2, 2]) {
         0 => STANDARD.to_vec(),
         1 => {
             let bytes = tree_table(random).bytes();
@@ -451,6 +513,10 @@ pub fn table(random: &mut Random) -> Vec<u8> {
             let depth = random.between(7, 10);
             table.rules[random.pick(&[0, 5, 6])].result = deep_label(random, depth, 2);
             table.bytes()
+        }
+        4 => {
+            let length = random.pick(&[301, 511, 511, 513]);
+            grown_table(random, length)
         }
         _ => {
             let length = random.pick(&[0, 511, 512, 513, 600]);
@@ -622,6 +688,9 @@ pub fn job(random: &mut Random) -> Vec<u8> {
     if random.percent(96) {
         job.push(0x43);
         job.extend(sheet(random, cells));
+    }
+    if random.percent(3) {
+        job.truncate(random.below(job.len() + 1));
     }
     if random.below(400) == 0 {
         let length = random.pick(&[65_535, 65_536, 65_537, 70_000]);

@@ -1,7 +1,26 @@
 //! What was reached, how often: a test that never meets a stop says nothing about it.
 
 use crate::backend::Answer;
-use model::rules::Question;
+use model::page::JobFault;
+use model::rules::{Question, Table, TableFault, DEPTH};
+
+const TABLE_FAULTS: [TableFault; 7] = [
+    TableFault::TooLong,
+    TableFault::Unknown,
+    TableFault::Misplaced,
+    TableFault::TooDeep,
+    TableFault::Unsupplied,
+    TableFault::Missing,
+    TableFault::LeftOver,
+];
+
+const JOB_FAULTS: [JobFault; 5] = [
+    JobFault::TooLong,
+    JobFault::UnknownByte,
+    JobFault::CutOperand,
+    JobFault::TooManyCells,
+    JobFault::NoSheet,
+];
 
 /// Counts for one engine.
 #[derive(Clone, Default)]
@@ -44,13 +63,19 @@ pub struct Tally {
     pub commands: [u64; 12],
     /// The same at a place whose label is not empty.
     pub hidden: [u64; 12],
-    /// Tables that were accepted and are not the standard one.
+    /// Refused tables by what is wrong with them.
+    pub table_faults: [u64; 7],
+    /// Tables of accepted runs that are not the standard one; their longest, deepest, and longest handler.
     pub other_tables: u64,
+    pub longest_table: usize,
+    pub deepest_table: usize,
+    pub longest_handler: usize,
     /// Runs of the tag engine from a rule memory that was not empty.
     pub filled_memories: u64,
     pub pages: u64,
     pub page_bytes: u64,
-    pub job_faults: u64,
+    /// Faulty jobs by what is wrong with them.
+    pub job_faults: [u64; 5],
     pub job_refusals: u64,
     pub short_buffers: u64,
 }
@@ -61,6 +86,22 @@ impl Tally {
         if question.place != 0 {
             self.hidden[usize::from(question.code)] += 1;
         }
+    }
+
+    pub fn table_fault(&mut self, fault: TableFault) {
+        self.table_faults[fault as usize] += 1;
+    }
+
+    /// A table, not the standard one, under which a run was accepted.
+    pub fn other_table(&mut self, table: &Table, handler: usize) {
+        self.other_tables += 1;
+        self.longest_table = self.longest_table.max(table.bytes().len());
+        self.deepest_table = self.deepest_table.max(table.depth());
+        self.longest_handler = self.longest_handler.max(handler);
+    }
+
+    pub fn job_fault(&mut self, fault: JobFault) {
+        self.job_faults[fault as usize] += 1;
     }
 
     /// What was not reached though it should be.
@@ -87,10 +128,16 @@ impl Tally {
             want(format!("command {code:02x}"), self.commands[code]);
             want(format!("command {code:02x} at a hidden place"), self.hidden[code]);
         }
+        for (fault, &count) in TABLE_FAULTS.iter().zip(&self.table_faults) {
+            want(format!("{fault:?} in a table"), count);
+        }
+        for (fault, &count) in JOB_FAULTS.iter().zip(&self.job_faults) {
+            want(format!("{fault:?} in a job"), count);
+        }
         want("another table than the standard one".into(), self.other_tables);
+        want("a table eight deep".into(), u64::from(self.deepest_table == DEPTH));
         want("a rule memory that is not empty".into(), self.filled_memories);
         want("a page with lines".into(), self.page_bytes);
-        want("a faulty job".into(), self.job_faults);
         want("a refused job".into(), self.job_refusals);
         want("a short page buffer".into(), self.short_buffers);
         missing
@@ -118,14 +165,21 @@ impl Tally {
             row(format!("{code:02x}"), self.commands[code], self.hidden[code]);
         }
         println!(
-            "other tables {}, filled rule memories {}; jobs: pages {} of {} bytes, faulty {}, refused {}, short buffers {}",
+            "other tables {}: longest {} bytes, {} deep, longest handler {}; filled rule memories {}",
             self.other_tables,
-            self.filled_memories,
-            self.pages,
-            self.page_bytes,
-            self.job_faults,
-            self.job_refusals,
-            self.short_buffers
+            self.longest_table,
+            self.deepest_table,
+            self.longest_handler,
+            self.filled_memories
         );
+        print!("tables refused:");
+        for (fault, count) in TABLE_FAULTS.iter().zip(&self.table_faults) {
+            print!(" {fault:?} {count}");
+        }
+        print!("\njobs: pages {} of {} bytes, refused {}", self.pages, self.page_bytes, self.job_refusals);
+        for (fault, count) in JOB_FAULTS.iter().zip(&self.job_faults) {
+            print!(", {fault:?} {count}");
+        }
+        println!(", short buffers {}", self.short_buffers);
     }
 }

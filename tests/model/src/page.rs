@@ -18,10 +18,20 @@ pub struct Job<'a> {
     pub sheet: &'a [u8],
 }
 
-/// Reads a job, or says at which offset it is faulty.
-pub fn read(job: &[u8]) -> Result<Job<'_>, usize> {
+/// What may be wrong with a job.
+#[derive(Clone, Copy, Debug, PartialEq, Eq)]
+pub enum JobFault {
+    TooLong,
+    UnknownByte,
+    CutOperand,
+    TooManyCells,
+    NoSheet,
+}
+
+/// Reads a job, or says what is wrong and at which offset.
+pub fn read(job: &[u8]) -> Result<Job<'_>, (JobFault, usize)> {
     if job.len() > JOB_BYTES {
-        return Err(JOB_BYTES);
+        return Err((JobFault::TooLong, JOB_BYTES));
     }
     let mut cells = Vec::new();
     let mut allowance = 1_000_000;
@@ -29,19 +39,20 @@ pub fn read(job: &[u8]) -> Result<Job<'_>, usize> {
     let mut rest = job;
     loop {
         let offset = job.len() - rest.len();
-        let (&code, operands) = rest.split_first().ok_or(offset)?;
+        let cut = (JobFault::CutOperand, offset);
+        let (&code, operands) = rest.split_first().ok_or((JobFault::NoSheet, offset))?;
         match code {
             0x40 => {
-                let (number, after) = operands.split_first_chunk().ok_or(offset)?;
-                let (label, after) = after.split_first_chunk().ok_or(offset)?;
+                let (number, after) = operands.split_first_chunk().ok_or(cut)?;
+                let (label, after) = after.split_first_chunk().ok_or(cut)?;
                 if cells.len() == engine::CELLS {
-                    return Err(offset);
+                    return Err((JobFault::TooManyCells, offset));
                 }
                 cells.push(Atom { number: i64::from_le_bytes(*number), label: u32::from_le_bytes(*label) });
                 rest = after;
             }
             0x41 | 0x42 => {
-                let (field, after) = operands.split_first_chunk().ok_or(offset)?;
+                let (field, after) = operands.split_first_chunk().ok_or(cut)?;
                 let field = u32::from_le_bytes(*field);
                 if code == 0x41 {
                     allowance = field;
@@ -51,7 +62,7 @@ pub fn read(job: &[u8]) -> Result<Job<'_>, usize> {
                 rest = after;
             }
             0x43 => return Ok(Job { cells, allowance, reader, sheet: operands }),
-            _ => return Err(offset),
+            _ => return Err((JobFault::UnknownByte, offset)),
         }
     }
 }
@@ -60,7 +71,7 @@ pub fn read(job: &[u8]) -> Result<Job<'_>, usize> {
 pub fn page(job: &[u8]) -> String {
     let job = match read(job) {
         Ok(job) => job,
-        Err(offset) => return format!("job {offset}\n"),
+        Err((_, offset)) => return format!("job {offset}\n"),
     };
     let table = Table::parse(&STANDARD).expect("the standard table is a table");
     let mut lent = Lent::roomy(&job.cells, LINES);

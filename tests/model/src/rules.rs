@@ -129,6 +129,13 @@ impl LabelTree {
         }
     }
 
+    fn depth(&self) -> usize {
+        match self {
+            LabelTree::Join(left, right) => 1 + left.depth().max(right.depth()),
+            _ => 1,
+        }
+    }
+
     pub fn bytes(&self, out: &mut Vec<u8>) {
         match self {
             LabelTree::Empty => out.push(0x10),
@@ -150,6 +157,14 @@ impl YesNoTree {
             YesNoTree::True => true,
             YesNoTree::And(left, right) => left.holds(question) && right.holds(question),
             YesNoTree::Or(left, right) => left.holds(question) || right.holds(question),
+        }
+    }
+
+    fn depth(&self) -> usize {
+        match self {
+            YesNoTree::True => 1,
+            YesNoTree::Flows(from, to) => 1 + from.depth().max(to.depth()),
+            YesNoTree::And(left, right) | YesNoTree::Or(left, right) => 1 + left.depth().max(right.depth()),
         }
     }
 
@@ -175,7 +190,19 @@ impl YesNoTree {
     }
 }
 
-/// Reads expressions from the left; a fault is the offset of the byte that is wrong or missing.
+/// What may be wrong with a table's byte; all of them are refusal 6 at its offset.
+#[derive(Clone, Copy, Debug, PartialEq, Eq)]
+pub enum TableFault {
+    TooLong,
+    Unknown,
+    Misplaced,
+    TooDeep,
+    Unsupplied,
+    Missing,
+    LeftOver,
+}
+
+/// Reads expressions from the left.
 struct Reader<'a> {
     bytes: &'a [u8],
     at: usize,
@@ -183,50 +210,67 @@ struct Reader<'a> {
 }
 
 impl Reader<'_> {
-    /// The next byte, unless it is missing or stands more than eight deep.
-    fn next(&mut self, depth: usize) -> Result<u8, usize> {
+    fn fault<T>(&self, fault: TableFault) -> Result<T, (TableFault, usize)> {
+        Err((fault, self.at))
+    }
+
+    /// The byte here, unless it is missing or stands more than eight deep.
+    fn byte(&self, depth: usize) -> Result<u8, (TableFault, usize)> {
         match self.bytes.get(self.at) {
-            Some(&byte) if depth <= DEPTH => {
-                self.at += 1;
-                Ok(byte)
-            }
-            _ => Err(self.at),
+            None => self.fault(TableFault::Missing),
+            Some(_) if depth > DEPTH => self.fault(TableFault::TooDeep),
+            Some(&byte) => Ok(byte),
         }
     }
 
-    fn label(&mut self, depth: usize) -> Result<LabelTree, usize> {
-        let start = self.at;
-        match self.next(depth)? {
-            0x10 => Ok(LabelTree::Empty),
-            0x11 => Ok(LabelTree::Place),
-            byte @ 0x12..=0x14 if usize::from(byte - 0x11) <= self.inputs => {
-                Ok(LabelTree::Input((byte - 0x11).into()))
+    fn label(&mut self, depth: usize) -> Result<LabelTree, (TableFault, usize)> {
+        let leaf = match self.byte(depth)? {
+            0x10 => LabelTree::Empty,
+            0x11 => LabelTree::Place,
+            byte @ 0x12..=0x14 => {
+                let index = usize::from(byte - 0x11);
+                if index > self.inputs {
+                    return self.fault(TableFault::Unsupplied);
+                }
+                LabelTree::Input(index)
             }
             0x15 => {
+                self.at += 1;
                 let left = self.label(depth + 1)?;
                 let right = self.label(depth + 1)?;
-                Ok(LabelTree::Join(left.into(), right.into()))
+                return Ok(LabelTree::Join(left.into(), right.into()));
             }
-            _ => Err(start),
-        }
+            0x16..=0x19 => return self.fault(TableFault::Misplaced),
+            _ => return self.fault(TableFault::Unknown),
+        };
+        self.at += 1;
+        Ok(leaf)
     }
 
-    fn yes_no(&mut self, depth: usize) -> Result<YesNoTree, usize> {
-        let start = self.at;
-        match self.next(depth)? {
+    fn yes_no(&mut self, depth: usize) -> Result<YesNoTree, (TableFault, usize)> {
+        let byte = self.byte(depth)?;
+        match byte {
+            0x10..=0x15 => return self.fault(TableFault::Misplaced),
+            0x16..=0x19 => self.at += 1,
+            _ => return self.fault(TableFault::Unknown),
+        }
+        Ok(match byte {
             0x16 => {
                 let from = self.label(depth + 1)?;
                 let to = self.label(depth + 1)?;
-                Ok(YesNoTree::Flows(from, to))
+                YesNoTree::Flows(from, to)
             }
-            0x17 => Ok(YesNoTree::True),
-            byte @ (0x18 | 0x19) => {
+            0x17 => YesNoTree::True,
+            _ => {
                 let left = self.yes_no(depth + 1)?.into();
                 let right = self.yes_no(depth + 1)?.into();
-                Ok(if byte == 0x18 { YesNoTree::And(left, right) } else { YesNoTree::Or(left, right) })
+                if byte == 0x18 {
+                    YesNoTree::And(left, right)
+                } else {
+                    YesNoTree::Or(left, right)
+                }
             }
-            _ => Err(start),
-        }
+        })
     }
 }
 
@@ -238,30 +282,36 @@ pub fn result_is_empty(code: u8) -> bool {
 impl Table {
     /// The table of these bytes, or refusal 6.
     pub fn parse(bytes: &[u8]) -> Result<Table, Refusal> {
-        if bytes.len() > TABLE_BYTES {
-            return Err(Refusal::new(6, TABLE_BYTES));
-        }
-        Table::read(bytes).map_err(|offset| Refusal::new(6, offset))
+        Table::read(bytes).map_err(|(_, offset)| Refusal::new(6, offset))
     }
 
-    fn read(bytes: &[u8]) -> Result<Table, usize> {
+    /// The table of these bytes, or what is wrong and where.
+    pub fn read(bytes: &[u8]) -> Result<Table, (TableFault, usize)> {
+        if bytes.len() > TABLE_BYTES {
+            return Err((TableFault::TooLong, TABLE_BYTES));
+        }
         let mut reader = Reader { bytes, at: 0, inputs: 0 };
         let mut rules = Vec::new();
         for code in 0x01..=0x0b {
             reader.inputs = inputs_of(code);
             let allowed = reader.yes_no(1)?;
             let place = reader.label(1)?;
-            let start = reader.at;
-            let result = reader.label(1);
-            if result_is_empty(code) && result != Ok(LabelTree::Empty) {
-                return Err(start);
+            if result_is_empty(code) && reader.byte(1)? != 0x10 {
+                return reader.fault(TableFault::Misplaced);
             }
-            rules.push(Rule { allowed, place, result: result? });
+            let result = reader.label(1)?;
+            rules.push(Rule { allowed, place, result });
         }
         if reader.at < bytes.len() {
-            return Err(reader.at);
+            return reader.fault(TableFault::LeftOver);
         }
         Ok(Table { rules })
+    }
+
+    /// How deep the table's deepest expression is.
+    pub fn depth(&self) -> usize {
+        let depth = |rule: &Rule| rule.allowed.depth().max(rule.place.depth()).max(rule.result.depth());
+        self.rules.iter().map(depth).max().unwrap_or(0)
     }
 
     pub fn bytes(&self) -> Vec<u8> {
