@@ -1,0 +1,329 @@
+//! The fastest interpreter of the plain machine that was to hand: commands decoded to an enum, a Push fused with what
+//! follows it, packed entries, no index tested twice. It allocates, and lays its memory out only at the end.
+
+use crate::safe::{check_fuel, check_plain, load_sheet, FRAME, VALUE};
+use model::engine::{Lent, Report};
+use model::machine::{Stop, STACK};
+use model::{Label, Refusal};
+
+#[derive(Clone, Copy)]
+enum Op {
+    Add,
+    Sub,
+    Pop,
+    Output,
+    Push(i64),
+    Load,
+    Store,
+    Jump,
+    Bnz(i64),
+    Call,
+    Ret,
+    /// A Push and the command after it. The cell is known to be there, the branch to be taken or not.
+    PushAdd(i64),
+    PushSub(i64),
+    PushLoad(u32),
+    PushStore(u32),
+    PushJump(i64),
+    PushBnz(i64, i32),
+}
+
+#[derive(Clone, Copy)]
+struct Entry {
+    number: i64,
+    label: u32,
+    frame: bool,
+}
+
+#[derive(Clone, Copy)]
+struct Cell {
+    number: i64,
+    label: u32,
+}
+
+fn single(code: i64, operand: i64) -> Op {
+    match code {
+        1 => Op::Add,
+        2 => Op::Sub,
+        3 => Op::Pop,
+        4 => Op::Output,
+        5 => Op::Push(operand),
+        6 => Op::Load,
+        7 => Op::Store,
+        8 => Op::Jump,
+        9 => Op::Bnz(operand),
+        10 => Op::Call,
+        _ => Op::Ret,
+    }
+}
+
+/// The commands of a program, each Push fused with its successor where that cannot stop by its operand.
+fn decode(program: &[i64], cells: usize) -> Vec<Op> {
+    let words: Vec<(i64, i64)> = program.chunks_exact(2).map(|pair| (pair[0], pair[1])).collect();
+    let op = |index: usize| {
+        let (code, operand) = words[index];
+        let next = words.get(index + 1).copied();
+        let in_cells = (0..cells as i64).contains(&operand);
+        match (code, next) {
+            (5, Some((1, _))) => Op::PushAdd(operand),
+            (5, Some((2, _))) => Op::PushSub(operand),
+            (5, Some((6, _))) if in_cells => Op::PushLoad(operand as u32),
+            (5, Some((7, _))) if in_cells => Op::PushStore(operand as u32),
+            (5, Some((8, _))) => Op::PushJump(operand),
+            (5, Some((9, distance))) => {
+                Op::PushBnz(operand, if operand != 0 { 1 + distance as i32 } else { 2 })
+            }
+            _ => single(code, operand),
+        }
+    };
+    (0..words.len()).map(op).collect()
+}
+
+/// The lone Push of a fused one.
+fn alone(op: Op) -> Op {
+    match op {
+        Op::PushAdd(number) | Op::PushSub(number) | Op::PushJump(number) | Op::PushBnz(number, _) => {
+            Op::Push(number)
+        }
+        Op::PushLoad(cell) | Op::PushStore(cell) => Op::Push(cell.into()),
+        other => other,
+    }
+}
+
+pub fn plain(sheet: &[u8], lent: &mut Lent, fuel: u64) -> Result<Report, Refusal> {
+    let count = check_plain(sheet, lent)?;
+    check_fuel(fuel)?;
+    load_sheet(sheet, &mut lent.program);
+    let ops = decode(&lent.program[..2 * count], lent.values.len());
+    Ok(run(&ops, lent, fuel))
+}
+
+fn run(ops: &[Op], lent: &mut Lent, fuel: u64) -> Report {
+    let mut cells: Vec<Cell> = (lent.values.iter().zip(&lent.labels))
+        .map(|(&number, &label)| Cell { number, label: label as u32 })
+        .collect();
+    let cells = &mut cells[..];
+    let mut stack = [Entry { number: 0, label: 0, frame: false }; STACK];
+    let room = lent.numbers.len().min(lent.marks.len());
+    let count = ops.len() as u64;
+    let (mut pc, mut label, mut depth, mut lines, mut left) = (0i64, 0u32, 0usize, 0usize, fuel);
+    // Entries below this were written.
+    let mut high = 0;
+
+    // SAFETY, for this macro: each use stands after a test that depth is above `below`, and depth is at most 256.
+    macro_rules! entry {
+        ($below:expr) => {
+            *unsafe { stack.get_unchecked_mut(depth - 1 - $below) }
+        };
+    }
+    macro_rules! value {
+        ($below:expr) => {
+            depth > $below && !entry!($below).frame
+        };
+    }
+    // Writes an entry above the top: depth was tested to be below 256.
+    macro_rules! above {
+        ($number:expr, $label:expr) => {
+            // SAFETY: depth is below 256.
+            *unsafe { stack.get_unchecked_mut(depth) } =
+                Entry { number: $number, label: $label, frame: false };
+            high = high.max(depth + 1);
+        };
+    }
+    // A fused command that stops leaves its Push carried out.
+    macro_rules! pushed {
+        ($number:expr, $stop:expr) => {{
+            above!($number, 0);
+            depth += 1;
+            pc += 1;
+            left -= 1;
+            break $stop;
+        }};
+    }
+
+    let stop = loop {
+        if pc as u64 >= count {
+            if pc as u64 == count {
+                break Stop::End;
+            }
+            break if left == 0 { Stop::AllowanceSpent } else { Stop::PlaceOutside };
+        }
+        if left == 0 {
+            break Stop::AllowanceSpent;
+        }
+        // SAFETY: pc was tested to be below the number of commands.
+        let mut op = *unsafe { ops.get_unchecked(pc as usize) };
+        if left == 1 || depth == STACK {
+            op = alone(op);
+        }
+        match op {
+            Op::PushAdd(number) => {
+                if !value!(0) {
+                    pushed!(number, Stop::ValueMissing);
+                }
+                above!(number, 0);
+                entry!(0).number = number.wrapping_add(entry!(0).number);
+                pc += 2;
+                left -= 1;
+            }
+            Op::PushSub(number) => {
+                if !value!(0) {
+                    pushed!(number, Stop::ValueMissing);
+                }
+                above!(number, 0);
+                entry!(0).number = number.wrapping_sub(entry!(0).number);
+                pc += 2;
+                left -= 1;
+            }
+            Op::PushLoad(address) => {
+                // SAFETY: decoding tested the address.
+                let cell = *unsafe { cells.get_unchecked(address as usize) };
+                above!(cell.number, cell.label);
+                depth += 1;
+                pc += 2;
+                left -= 1;
+            }
+            Op::PushStore(address) => {
+                // SAFETY: decoding tested the address.
+                let cell = unsafe { cells.get_unchecked_mut(address as usize) };
+                if !value!(0) {
+                    pushed!(address.into(), Stop::ValueMissing);
+                }
+                if label & !cell.label != 0 {
+                    pushed!(address.into(), Stop::NotAllowed);
+                }
+                above!(address.into(), 0);
+                *cell = Cell { number: entry!(0).number, label: entry!(0).label | label };
+                depth -= 1;
+                pc += 2;
+                left -= 1;
+            }
+            Op::PushJump(target) => {
+                above!(target, 0);
+                pc = target;
+                left -= 1;
+            }
+            Op::PushBnz(number, distance) => {
+                above!(number, 0);
+                pc += i64::from(distance);
+                left -= 1;
+            }
+            Op::Push(number) => {
+                if depth == STACK {
+                    break Stop::StackFull;
+                }
+                above!(number, 0);
+                depth += 1;
+                pc += 1;
+            }
+            Op::Add | Op::Sub => {
+                if !(value!(0) && value!(1)) {
+                    break Stop::ValueMissing;
+                }
+                let (top, under) = (entry!(0), entry!(1));
+                let number = match op {
+                    Op::Add => top.number.wrapping_add(under.number),
+                    _ => top.number.wrapping_sub(under.number),
+                };
+                entry!(1) = Entry { number, label: top.label | under.label, frame: false };
+                depth -= 1;
+                pc += 1;
+            }
+            Op::Pop => {
+                if !value!(0) {
+                    break Stop::ValueMissing;
+                }
+                depth -= 1;
+                pc += 1;
+            }
+            Op::Output => {
+                if !value!(0) {
+                    break Stop::ValueMissing;
+                }
+                if lines >= room {
+                    break Stop::OutputFull;
+                }
+                lent.numbers[lines] = entry!(0).number;
+                lent.marks[lines] = (entry!(0).label | label).into();
+                lines += 1;
+                depth -= 1;
+                pc += 1;
+            }
+            Op::Load => {
+                if !value!(0) {
+                    break Stop::ValueMissing;
+                }
+                let top = entry!(0);
+                let Some(cell) = cells.get(top.number as usize) else { break Stop::AddressOutside };
+                entry!(0) = Entry { number: cell.number, label: top.label | cell.label, frame: false };
+                pc += 1;
+            }
+            Op::Store => {
+                if !(value!(0) && value!(1)) {
+                    break Stop::ValueMissing;
+                }
+                let (top, under) = (entry!(0), entry!(1));
+                let Some(cell) = cells.get_mut(top.number as usize) else { break Stop::AddressOutside };
+                let from = top.label | label;
+                if from & !cell.label != 0 {
+                    break Stop::NotAllowed;
+                }
+                *cell = Cell { number: under.number, label: from | under.label };
+                depth -= 2;
+                pc += 1;
+            }
+            Op::Jump => {
+                if !value!(0) {
+                    break Stop::ValueMissing;
+                }
+                pc = entry!(0).number;
+                label |= entry!(0).label;
+                depth -= 1;
+            }
+            Op::Bnz(distance) => {
+                if !value!(0) {
+                    break Stop::ValueMissing;
+                }
+                pc += if entry!(0).number != 0 { distance } else { 1 };
+                label |= entry!(0).label;
+                depth -= 1;
+            }
+            Op::Call => {
+                if !(value!(0) && value!(1)) {
+                    break Stop::ValueMissing;
+                }
+                let (target, argument) = (entry!(0), entry!(1));
+                entry!(1) = Entry { number: pc + 1, label, frame: true };
+                entry!(0) = argument;
+                pc = target.number;
+                label |= target.label;
+            }
+            Op::Ret => {
+                if depth == 0 || !entry!(0).frame {
+                    break Stop::FrameMissing;
+                }
+                pc = entry!(0).number;
+                label = entry!(0).label;
+                depth -= 1;
+            }
+        }
+        left -= 1;
+    };
+    for (words, entry) in lent.stack.chunks_exact_mut(3).zip(&stack[..high]) {
+        words.copy_from_slice(&[if entry.frame { FRAME } else { VALUE }, entry.number, entry.label.into()]);
+    }
+    for (index, cell) in cells.iter().enumerate() {
+        lent.values[index] = cell.number;
+        lent.labels[index] = cell.label.into();
+    }
+    Report {
+        stop,
+        steps: fuel - left,
+        place: pc,
+        place_label: label as Label,
+        depth: depth as u64,
+        lines: lines as u64,
+        faults: 0,
+        kernel_steps: 0,
+    }
+}

@@ -1,0 +1,7 @@
+//! What the engines are measured against: interpreters in Rust that give the same answers on the same lent memory,
+//! which `tests/agree.rs` holds to the model, and the sheets that all of them run.
+
+pub mod fast;
+pub mod safe;
+pub mod tags;
+pub mod workloads;

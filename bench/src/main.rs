@@ -1,0 +1,292 @@
+//! Measures the engines and what they are held against in one run, and prints ratios. All are reached with the same
+//! memory, which is made anew before each run, outside the time. Processor time is measured, the best of several runs
+//! counts, and the runs of one workload take turns, so that a busy machine slows all of them alike.
+
+use bench::workloads::{all, idle, walk, Workload};
+use bench::{fast, safe, tags};
+use model::engine::{Lent, Report};
+use model::rules::STANDARD;
+use std::hint::black_box;
+use std::io::Write;
+use std::process::{Command, Stdio};
+
+const ROUNDS: usize = 9;
+const FUEL: u64 = 1_000_000;
+
+#[repr(C)]
+struct Timespec {
+    seconds: i64,
+    nanoseconds: i64,
+}
+
+extern "C" {
+    fn clock_gettime(clock: i32, time: *mut Timespec) -> i32;
+}
+
+/// Nanoseconds of processor time that this program has taken.
+fn now() -> f64 {
+    const PROCESS_TIME: i32 = 2;
+    let mut time = Timespec { seconds: 0, nanoseconds: 0 };
+    // SAFETY: the pointer is to a structure of C's layout, which the call fills.
+    let status = unsafe { clock_gettime(PROCESS_TIME, &mut time) };
+    assert_eq!(status, 0, "Linux has this clock");
+    time.seconds as f64 * 1e9 + time.nanoseconds as f64
+}
+
+/// Runs a sheet on lent memory; the tag engines find the handler's words there.
+type Runner<'a> = Box<dyn Fn(&[u8], &mut Lent, u64) -> [u64; 3] + 'a>;
+
+struct Contestant<'a> {
+    name: &'static str,
+    run: Runner<'a>,
+}
+
+fn counts(report: Report) -> [u64; 3] {
+    [report.steps, report.faults, report.kernel_steps]
+}
+
+const ACCEPTED: &str = "the start breaks no limit";
+
+#[cfg(feature = "engine")]
+mod engine {
+    use super::*;
+    use differential::backend::{Answer, Backend};
+    use differential::engine::Engine;
+
+    fn counts(answer: Answer) -> [u64; 3] {
+        let [refusal, _, _, steps, _, _, _, _, faults, kernel_steps] = answer.words;
+        assert_eq!(refusal, 0, "{ACCEPTED}");
+        [steps, faults, kernel_steps]
+    }
+
+    pub fn contestants<'a>() -> Vec<Contestant<'a>> {
+        vec![
+            Contestant {
+                name: PLAIN,
+                run: Box::new(|sheet, lent, fuel| counts(Engine.plain(sheet, lent, fuel))),
+            },
+            Contestant {
+                name: TAGGED,
+                run: Box::new(|sheet, lent, fuel| counts(Engine.tagged(sheet, &STANDARD, lent, fuel))),
+            },
+        ]
+    }
+
+    /// The handler's words as the engine leaves them.
+    pub fn handler() -> Vec<i64> {
+        let mut lent = Lent::roomy(&[], 0);
+        lent.handler.truncate(2 * Engine.handler_count(&STANDARD) as usize);
+        counts(Engine.tagged(&[], &STANDARD, &mut lent, 0));
+        lent.handler
+    }
+}
+
+#[cfg(not(feature = "engine"))]
+mod engine {
+    use super::*;
+    use model::rules::Table;
+    use model::sample::Sample;
+
+    pub fn contestants<'a>() -> Vec<Contestant<'a>> {
+        println!("built without the feature `engine`: only what the engines would be held against");
+        vec![]
+    }
+
+    pub fn handler() -> Vec<i64> {
+        let table = Table::parse(&STANDARD).expect("the standard table is a table");
+        Sample::of(&table).handler().words.to_vec()
+    }
+}
+
+const PLAIN: &str = "plain engine";
+const TAGGED: &str = "tag engine";
+const SAFE: &str = "safe Rust";
+const FAST: &str = "fast Rust";
+const TAGS: &str = "Rust tags";
+const LUA: &str = "Lua 5.4";
+
+fn contestants<'a>(handler: &'a [i64]) -> Vec<Contestant<'a>> {
+    let mut list = engine::contestants();
+    list.push(Contestant {
+        name: SAFE,
+        run: Box::new(|sheet, lent, fuel| counts(safe::plain(sheet, lent, fuel).expect(ACCEPTED))),
+    });
+    list.push(Contestant {
+        name: FAST,
+        run: Box::new(|sheet, lent, fuel| counts(fast::plain(sheet, lent, fuel).expect(ACCEPTED))),
+    });
+    list.push(Contestant {
+        name: TAGS,
+        run: Box::new(|sheet, lent, fuel| {
+            counts(tags::tagged(sheet, &STANDARD, handler.len() / 2, lent, fuel).expect(ACCEPTED))
+        }),
+    });
+    list
+}
+
+struct Measured {
+    name: &'static str,
+    /// Nanoseconds a step, of the best round.
+    time: f64,
+    counts: [u64; 3],
+}
+
+/// The best time of each contestant on a workload, and what the run counted.
+fn measure(contestants: &[Contestant], workload: &Workload, handler: &[i64], fuel: u64) -> Vec<Measured> {
+    let mut measured: Vec<Measured> = (contestants.iter())
+        .map(|contestant| Measured { name: contestant.name, time: f64::INFINITY, counts: [0; 3] })
+        .collect();
+    for _ in 0..ROUNDS {
+        for (contestant, measured) in contestants.iter().zip(&mut measured) {
+            let mut lent = workload.lent(handler);
+            let began = now();
+            let counts = (contestant.run)(black_box(&workload.sheet), &mut lent, fuel);
+            let time = (now() - began) / fuel as f64;
+            black_box(&lent);
+            assert_eq!(counts[0], fuel, "{} {}: the allowance ends the run", contestant.name, workload.name);
+            measured.counts = counts;
+            measured.time = measured.time.min(time);
+        }
+    }
+    measured
+}
+
+/// Nanoseconds for a step's worth of the workload in Lua, if it is installed.
+fn lua(workload: &Workload) -> Option<f64> {
+    let lua = workload.lua.as_ref()?;
+    let rounds = FUEL / lua.steps;
+    let script = format!(
+        "local best = math.huge\nfor run = 1, {ROUNDS} do\n{}\nlocal began = os.clock()\nfor i = 1, {rounds} do {} end\n\
+         best = math.min(best, os.clock() - began)\nend\nprint(best)\n",
+        lua.setup, lua.round
+    );
+    let mut child =
+        Command::new("lua5.4").arg("-").stdin(Stdio::piped()).stdout(Stdio::piped()).spawn().ok()?;
+    child.stdin.take()?.write_all(script.as_bytes()).ok()?;
+    let output = child.wait_with_output().ok()?;
+    let seconds: f64 = String::from_utf8(output.stdout).ok()?.trim().parse().ok()?;
+    Some(seconds * 1e9 / FUEL as f64)
+}
+
+fn print_speeds(handler: &[i64], contestants: &[Contestant]) {
+    print!("{:>18}", "Msteps/s");
+    for contestant in contestants {
+        print!(" {:>13}", contestant.name);
+    }
+    println!(" {LUA:>13} {:>13} {:>13}", "faults/step", "kernel/step");
+    let mut tables = Vec::new();
+    for workload in all() {
+        let mut measured = measure(contestants, &workload, handler, FUEL);
+        print!("{:>18}", workload.name);
+        for one in &measured {
+            print!(" {:>13.1}", 1e3 / one.time);
+        }
+        let lua = lua(&workload);
+        print!(" {:>13}", lua.map_or("-".into(), |time| format!("{:.1}", 1e3 / time)));
+        let [steps, faults, kernel] =
+            measured.iter().find(|one| one.name == TAGS).map_or([1, 0, 0], |one| one.counts);
+        println!(" {:>13.3} {:>13.2}", faults as f64 / steps as f64, kernel as f64 / steps as f64);
+        for one in &measured {
+            if one.name == TAGGED {
+                assert_eq!(one.counts, [steps, faults, kernel], "the tag engines count alike");
+            }
+        }
+        if let Some(time) = lua {
+            measured.push(Measured { name: LUA, time, counts: [0; 3] });
+        }
+        tables.push((workload.name, measured));
+    }
+    print_ratios(&tables);
+}
+
+/// How many times as fast the first of each pair is as the second.
+fn print_ratios(tables: &[(&str, Vec<Measured>)]) {
+    let pairs = [
+        (PLAIN, SAFE),
+        (PLAIN, FAST),
+        (PLAIN, LUA),
+        (TAGGED, TAGS),
+        (TAGGED, PLAIN),
+        (TAGS, SAFE),
+        (FAST, SAFE),
+    ];
+    println!("\nratios of speed: above 1 the first is faster");
+    print!("{:>18}", "");
+    for (first, second) in pairs {
+        print!(" {:>25}", format!("{first} / {second}"));
+    }
+    println!();
+    for (name, measured) in tables {
+        print!("{name:>18}");
+        let time = |name| measured.iter().find(|one| one.name == name).map(|one| one.time);
+        for (first, second) in pairs {
+            let ratio = time(first).zip(time(second)).map(|(first, second)| second / first);
+            print!(" {:>25}", ratio.map_or("-".into(), |ratio| format!("{ratio:.2}")));
+        }
+        println!();
+    }
+}
+
+/// Nanoseconds of the best of several runs of a start, repeated within each run.
+fn start_time(contestant: &Contestant, sheet: &[u8], lent: &Lent) -> f64 {
+    const REPEATS: usize = 200;
+    let mut lent = lent.clone();
+    let mut best = f64::INFINITY;
+    for _ in 0..ROUNDS {
+        let began = now();
+        for _ in 0..REPEATS {
+            black_box((contestant.run)(black_box(sheet), &mut lent, 0));
+        }
+        best = best.min((now() - began) / REPEATS as f64);
+    }
+    best
+}
+
+fn print_growth(handler: &[i64], contestants: &[Contestant]) {
+    let header = |title: &str| {
+        print!("\n{title:>34}");
+        for contestant in contestants {
+            print!(" {:>13}", contestant.name);
+        }
+        println!();
+    };
+    let row = |name: String, times: Vec<f64>| {
+        print!("{name:>34}");
+        for time in times {
+            print!(" {time:>13.2}");
+        }
+        println!();
+    };
+    header("growth with steps: ns/step");
+    for fuel in [1_000, 10_000, 100_000, 1_000_000] {
+        let measured = measure(contestants, &walk(1024), handler, fuel);
+        row(format!("{fuel} steps"), measured.into_iter().map(|one| one.time).collect());
+    }
+    header("growth with cells: ns/step");
+    for cells in [2, 32, 1024] {
+        let measured = measure(contestants, &walk(cells), handler, FUEL);
+        row(format!("{cells} cells"), measured.into_iter().map(|one| one.time).collect());
+    }
+    header("start with no step: ns/command");
+    for commands in [16, 256, 4096] {
+        let workload = Workload { sheet: idle(commands), ..walk(2) };
+        let lent = workload.lent(handler);
+        let time = |contestant: &Contestant| start_time(contestant, &workload.sheet, &lent) / commands as f64;
+        row(format!("{commands} commands"), contestants.iter().map(time).collect());
+    }
+    header("start with no step: ns/cell");
+    for cells in [32, 1024] {
+        let lent = walk(cells).lent(handler);
+        let time = |contestant: &Contestant| start_time(contestant, &[], &lent) / cells as f64;
+        row(format!("{cells} cells"), contestants.iter().map(time).collect());
+    }
+}
+
+fn main() {
+    let handler = engine::handler();
+    let contestants = contestants(&handler);
+    println!("processor time, best of {ROUNDS} runs of {FUEL} steps; memory made anew before each run, outside the time");
+    println!("the standard table's handler has {} kernel commands", handler.len() / 2);
+    print_speeds(&handler, &contestants);
+    print_growth(&handler, &contestants);
+}

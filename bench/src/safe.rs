@@ -1,0 +1,248 @@
+//! A straightforward interpreter in safe Rust on the engines' own layout: two words a command, three a stack entry,
+//! cells and lines as two runs. Also all checks before the first step.
+
+use model::engine::{Lent, Report, ALLOWANCE, CELLS};
+use model::machine::{Stop, STACK};
+use model::sheet::COMMANDS;
+use model::{Label, Refusal};
+
+pub const VALUE: i64 = 0;
+pub const FRAME: i64 = 1;
+
+/// Checks a sheet: how many commands it has.
+pub fn check_sheet(sheet: &[u8]) -> Result<usize, Refusal> {
+    let (mut offset, mut count) = (0, 0);
+    while offset < sheet.len() {
+        if count == COMMANDS {
+            return Err(Refusal::new(1, offset));
+        }
+        let width = match sheet[offset] {
+            5 => 8,
+            9 => 2,
+            1..=11 => 0,
+            _ => return Err(Refusal::new(2, offset)),
+        };
+        if sheet.len() - offset - 1 < width {
+            return Err(Refusal::new(3, offset));
+        }
+        offset += 1 + width;
+        count += 1;
+    }
+    Ok(count)
+}
+
+pub fn check_cells(values: &[i64], labels: &[i64]) -> Result<(), Refusal> {
+    if values.len() != labels.len() {
+        return Err(Refusal::new(4, values.len().min(labels.len())));
+    }
+    if values.len() > CELLS {
+        return Err(Refusal::new(4, CELLS));
+    }
+    match labels.iter().position(|&label| Label::try_from(label).is_err()) {
+        Some(cell) => Err(Refusal::new(5, cell)),
+        None => Ok(()),
+    }
+}
+
+/// Writes the commands of a sheet that passed its check.
+pub fn load_sheet(sheet: &[u8], program: &mut [i64]) {
+    let mut offset = 0;
+    for command in program.chunks_exact_mut(2) {
+        let Some(&code) = sheet.get(offset) else { return };
+        let rest = &sheet[offset + 1..];
+        let (operand, width) = match code {
+            5 => (i64::from_le_bytes(rest[..8].try_into().expect("eight bytes")), 8),
+            9 => (i16::from_le_bytes(rest[..2].try_into().expect("two bytes")).into(), 2),
+            _ => (0, 0),
+        };
+        command[0] = code.into();
+        command[1] = operand;
+        offset += 1 + width;
+    }
+}
+
+/// Refusals 8 at 1 and 2, and what the sheet's check counts.
+pub fn check_plain(sheet: &[u8], lent: &Lent) -> Result<usize, Refusal> {
+    let count = check_sheet(sheet)?;
+    check_cells(&lent.values, &lent.labels)?;
+    check_spaces(count, lent)?;
+    Ok(count)
+}
+
+pub fn check_spaces(count: usize, lent: &Lent) -> Result<(), Refusal> {
+    if lent.program.len() < 2 * count {
+        return Err(Refusal::new(8, 1));
+    }
+    if lent.stack.len() < 3 * STACK {
+        return Err(Refusal::new(8, 2));
+    }
+    Ok(())
+}
+
+pub fn check_fuel(fuel: u64) -> Result<(), Refusal> {
+    if fuel > ALLOWANCE {
+        return Err(Refusal::new(9, 0));
+    }
+    Ok(())
+}
+
+pub fn plain(sheet: &[u8], lent: &mut Lent, fuel: u64) -> Result<Report, Refusal> {
+    let count = check_plain(sheet, lent)?;
+    check_fuel(fuel)?;
+    load_sheet(sheet, &mut lent.program);
+    Ok(run(count, lent, fuel))
+}
+
+/// Whether the entry `below` the top is of this kind.
+fn is(kind: i64, stack: &[i64], depth: usize, below: usize) -> bool {
+    depth > below && stack[3 * (depth - 1 - below)] == kind
+}
+
+fn put(stack: &mut [i64], index: usize, kind: i64, number: i64, label: i64) {
+    stack[3 * index..3 * index + 3].copy_from_slice(&[kind, number, label]);
+}
+
+fn run(count: usize, lent: &mut Lent, fuel: u64) -> Report {
+    let Lent { values, labels, program, stack, numbers, marks, .. } = lent;
+    let room = numbers.len().min(marks.len());
+    let (mut pc, mut label, mut depth, mut lines, mut steps) = (0i64, 0i64, 0usize, 0usize, 0u64);
+    let stop = loop {
+        if pc == count as i64 {
+            break Stop::End;
+        }
+        if steps == fuel {
+            break Stop::AllowanceSpent;
+        }
+        if pc < 0 || pc > count as i64 {
+            break Stop::PlaceOutside;
+        }
+        let code = program[2 * pc as usize];
+        let operand = program[2 * pc as usize + 1];
+        match code {
+            1 | 2 => {
+                if !is(VALUE, stack, depth, 0) || !is(VALUE, stack, depth, 1) {
+                    break Stop::ValueMissing;
+                }
+                let (top, under) = (3 * (depth - 1), 3 * (depth - 2));
+                stack[under + 1] = if code == 1 {
+                    stack[top + 1].wrapping_add(stack[under + 1])
+                } else {
+                    stack[top + 1].wrapping_sub(stack[under + 1])
+                };
+                stack[under + 2] |= stack[top + 2];
+                depth -= 1;
+                pc += 1;
+            }
+            3 => {
+                if !is(VALUE, stack, depth, 0) {
+                    break Stop::ValueMissing;
+                }
+                depth -= 1;
+                pc += 1;
+            }
+            4 => {
+                if !is(VALUE, stack, depth, 0) {
+                    break Stop::ValueMissing;
+                }
+                if lines >= room {
+                    break Stop::OutputFull;
+                }
+                let top = 3 * (depth - 1);
+                numbers[lines] = stack[top + 1];
+                marks[lines] = stack[top + 2] | label;
+                lines += 1;
+                depth -= 1;
+                pc += 1;
+            }
+            5 => {
+                if depth == STACK {
+                    break Stop::StackFull;
+                }
+                put(stack, depth, VALUE, operand, 0);
+                depth += 1;
+                pc += 1;
+            }
+            6 => {
+                if !is(VALUE, stack, depth, 0) {
+                    break Stop::ValueMissing;
+                }
+                let top = 3 * (depth - 1);
+                let address = stack[top + 1];
+                if address < 0 || address >= values.len() as i64 {
+                    break Stop::AddressOutside;
+                }
+                stack[top + 1] = values[address as usize];
+                stack[top + 2] |= labels[address as usize];
+                pc += 1;
+            }
+            7 => {
+                if !is(VALUE, stack, depth, 0) || !is(VALUE, stack, depth, 1) {
+                    break Stop::ValueMissing;
+                }
+                let (top, under) = (3 * (depth - 1), 3 * (depth - 2));
+                let address = stack[top + 1];
+                if address < 0 || address >= values.len() as i64 {
+                    break Stop::AddressOutside;
+                }
+                let from = stack[top + 2] | label;
+                if from & !labels[address as usize] != 0 {
+                    break Stop::NotAllowed;
+                }
+                values[address as usize] = stack[under + 1];
+                labels[address as usize] = from | stack[under + 2];
+                depth -= 2;
+                pc += 1;
+            }
+            8 => {
+                if !is(VALUE, stack, depth, 0) {
+                    break Stop::ValueMissing;
+                }
+                let top = 3 * (depth - 1);
+                pc = stack[top + 1];
+                label |= stack[top + 2];
+                depth -= 1;
+            }
+            9 => {
+                if !is(VALUE, stack, depth, 0) {
+                    break Stop::ValueMissing;
+                }
+                let top = 3 * (depth - 1);
+                pc += if stack[top + 1] != 0 { operand } else { 1 };
+                label |= stack[top + 2];
+                depth -= 1;
+            }
+            10 => {
+                if !is(VALUE, stack, depth, 0) || !is(VALUE, stack, depth, 1) {
+                    break Stop::ValueMissing;
+                }
+                let (top, under) = (3 * (depth - 1), 3 * (depth - 2));
+                let (target, target_label) = (stack[top + 1], stack[top + 2]);
+                let (argument, argument_label) = (stack[under + 1], stack[under + 2]);
+                put(stack, depth - 2, FRAME, pc + 1, label);
+                put(stack, depth - 1, VALUE, argument, argument_label);
+                pc = target;
+                label |= target_label;
+            }
+            _ => {
+                if !is(FRAME, stack, depth, 0) {
+                    break Stop::FrameMissing;
+                }
+                let top = 3 * (depth - 1);
+                pc = stack[top + 1];
+                label = stack[top + 2];
+                depth -= 1;
+            }
+        }
+        steps += 1;
+    };
+    Report {
+        stop,
+        steps,
+        place: pc,
+        place_label: label as Label,
+        depth: depth as u64,
+        lines: lines as u64,
+        faults: 0,
+        kernel_steps: 0,
+    }
+}

@@ -1,0 +1,145 @@
+//! The sheets that are measured. Each goes round until its allowance is spent, so that all engines take the same steps.
+
+use differential::random::Random;
+use model::engine::Lent;
+use model::sheet::{encode, Command, Command::*};
+use model::Atom;
+
+pub struct Workload {
+    pub name: &'static str,
+    pub sheet: Vec<u8>,
+    pub cells: Vec<Atom>,
+    /// Lines that fit.
+    pub lines: usize,
+    /// The same work for one round of the loop in Lua, and how many steps of the sheet that is.
+    pub lua: Option<Lua>,
+}
+
+pub struct Lua {
+    pub setup: &'static str,
+    pub round: &'static str,
+    pub steps: u64,
+}
+
+impl Workload {
+    /// Fresh memory for a run, the handler's words in place.
+    pub fn lent(&self, handler: &[i64]) -> Lent {
+        let mut lent = Lent::roomy(&self.cells, self.lines);
+        lent.handler = handler.to_vec();
+        lent
+    }
+}
+
+fn hidden(number: i64) -> Atom {
+    Atom { number, label: 1 }
+}
+
+/// Sums on the stack, with a branch back.
+fn arithmetic() -> Workload {
+    let sheet = [Push(0), Push(3), Add, Push(7), Sub, Push(5), Add, Push(2), Sub, Push(1), Bnz(-9)];
+    Workload {
+        name: "arithmetic",
+        sheet: encode(&sheet),
+        cells: vec![],
+        lines: 0,
+        lua: Some(Lua {
+            setup: "local a = 0",
+            round: "a = 3 + a; a = 7 - a; a = 5 + a; a = 2 - a",
+            steps: 10,
+        }),
+    }
+}
+
+/// A walk through cells that each hold the address of the next one; cell 0 holds the walker's. Each cell that it
+/// comes to is read and written.
+pub fn walk(count: usize) -> Workload {
+    let sheet = [
+        &[Push(0), Load, Load, Push(0), Store][..],
+        &[Push(0), Load, Load, Push(0), Load, Store],
+        &[Push(1), Bnz(-12)],
+    ];
+    let next = |cell: usize| 1 + (cell + 6) % (count - 1);
+    Workload {
+        name: "cell walk",
+        sheet: encode(&sheet.concat()),
+        cells: (0..count).map(|cell| hidden(if cell == 0 { 1 } else { next(cell) as i64 })).collect(),
+        lines: 0,
+        lua: Some(Lua {
+            setup: "local c = {[0] = 1}; for i = 1, 1023 do c[i] = 1 + (i + 6) % 1023 end",
+            round: "c[0] = c[c[0]]; c[c[0]] = c[c[0]]",
+            steps: 13,
+        }),
+    }
+}
+
+fn calls() -> Workload {
+    let sheet = [Push(1), Push(5), Call, Push(0), Jump, Pop, Ret];
+    Workload {
+        name: "calls",
+        sheet: encode(&sheet),
+        cells: vec![],
+        lines: 0,
+        lua: Some(Lua { setup: "local function f(x) end", round: "f(1)", steps: 7 }),
+    }
+}
+
+/// Calls that branch on hidden numbers, one way and the other; each return lowers the place's label again.
+fn hidden_branches() -> Workload {
+    let caller = [Push(0), Load, Push(10), Call, Push(1), Load, Push(10), Call, Push(0), Jump];
+    let callee = [Bnz(3), Push(5), Pop, Ret];
+    Workload {
+        name: "hidden branches",
+        sheet: encode(&[&caller[..], &callee].concat()),
+        cells: vec![hidden(1), hidden(0)],
+        lines: 0,
+        lua: Some(Lua {
+            setup: "local c = {1, 0}; local function f(x) if x == 0 then local y = 5 end end",
+            round: "f(c[1]); f(c[2])",
+            steps: 16,
+        }),
+    }
+}
+
+fn lines() -> Workload {
+    Workload {
+        name: "lines",
+        sheet: encode(&[Push(7), Output, Push(1), Bnz(-3)]),
+        cells: vec![],
+        lines: 300_000,
+        lua: Some(Lua { setup: "local out = {}", round: "out[#out + 1] = 7", steps: 4 }),
+    }
+}
+
+/// All of these, drawn at random, over cells of several owners.
+fn mix() -> Workload {
+    let mut random = Random::new(2026);
+    let cells: Vec<Atom> =
+        (0..64).map(|cell| Atom { number: random.below(64) as i64, label: [0, 0, 1, 3][cell % 4] }).collect();
+    let mut sheet: Vec<Command> = Vec::new();
+    while sheet.len() < 1000 {
+        let here = sheet.len() as i64;
+        let mut cell = || Push(random.below(64) as i64);
+        let snippet = match cell() {
+            Push(0..=15) => vec![cell(), Load, cell(), Load, Add, cell(), Store],
+            Push(16..=27) => vec![cell(), cell(), Load, Sub, cell(), Store],
+            Push(28..=39) => vec![Push(3), cell(), Add, Push(9), Sub, Pop],
+            Push(40..=51) => {
+                vec![cell(), Load, Push(here + 6), Call, Push(here + 10), Jump, Bnz(3), Push(1), Pop, Ret]
+            }
+            _ => vec![Push(1), Bnz(2), Pop, Push(here + 5), Jump],
+        };
+        sheet.extend(snippet);
+    }
+    sheet.extend([Push(0), Jump]);
+    Workload { name: "random mix", sheet: encode(&sheet), cells, lines: 0, lua: None }
+}
+
+pub fn all() -> Vec<Workload> {
+    vec![arithmetic(), walk(1024), calls(), hidden_branches(), lines(), mix()]
+}
+
+/// A sheet of so many commands that does nothing.
+pub fn idle(commands: usize) -> Vec<u8> {
+    let pair = [Push(1), Pop];
+    encode(&pair.into_iter().cycle().take(commands).collect::<Vec<_>>())
+}

@@ -1,0 +1,56 @@
+//! What is measured gives the model's answers.
+
+use bench::{fast, safe, tags};
+use differential::backend::{Answer, Backend, Itself};
+use differential::compare::compare_case;
+use differential::tally::Tally;
+use model::engine::Lent;
+use model::rules::Table;
+use model::sample::Sample;
+
+/// One of the two interpreters with the tag engine in Rust.
+struct InRust {
+    fast: bool,
+}
+
+impl Backend for InRust {
+    fn plain(&self, sheet: &[u8], lent: &mut Lent, fuel: u64) -> Answer {
+        if self.fast {
+            fast::plain(sheet, lent, fuel).into()
+        } else {
+            safe::plain(sheet, lent, fuel).into()
+        }
+    }
+
+    fn tagged(&self, sheet: &[u8], table: &[u8], lent: &mut Lent, fuel: u64) -> Answer {
+        let sample = Table::parse(table).map_or(Sample::default(), |table| Sample::of(&table));
+        let handler = sample.handler();
+        let before = lent.handler.clone();
+        if let Some(space) = lent.handler.get_mut(..2 * handler.count) {
+            space.copy_from_slice(handler.words);
+        }
+        let answer = tags::tagged(sheet, table, handler.count, lent, fuel);
+        if answer.is_err() {
+            lent.handler = before;
+        }
+        answer.into()
+    }
+
+    fn handler_count(&self, table: &[u8]) -> u64 {
+        Itself.handler_count(table)
+    }
+
+    fn page(&self, job: &[u8], buffer: &mut [u8]) -> (u64, u64) {
+        Itself.page(job, buffer)
+    }
+}
+
+#[test]
+fn interpreters_agree_with_the_model() {
+    for fast in [false, true] {
+        let mut tally = Tally::default();
+        for case in 0..20_000 {
+            compare_case(&InRust { fast }, 3, case, &mut tally).unwrap();
+        }
+    }
+}

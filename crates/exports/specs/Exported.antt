@@ -1,0 +1,39 @@
+-- What a call through the C interface gives back and what every lent word is at its return, for all arguments.
+use Prim.Native.Nat.{ℕ}
+use mathlib.Core.List.{List}
+use lib.IntN.{ℤ}
+use Rattle.plain.specs.Plain.{Memory, plain}
+use Rattle.plain.specs.Plain as Plain
+use Rattle.tagged.specs.Tagged.{tagged}
+use Rattle.tagged.specs.Tagged as Tagged
+use Rattle.exports.specs.declared.result.LuvrodanResult.{LuvrodanResult}
+use Rattle.exports.specs.Result.{plainResult, taggedResult}
+use Rattle.exports.specs.Row.{givenRow, leftRow}
+
+-- the result and the lent runs
+pub record PlainLeft : Type 0 where
+  pub result : LuvrodanResult
+  pub memory : Memory
+
+abbrev pub plainLeft : LuvrodanResult → Memory → PlainLeft
+plainLeft r m = record { result = r; memory = m }
+
+-- of the sheet, the lent runs and the allowance
+unfoldable pub exportedPlain : List ℕ → Memory → ℕ → PlainLeft
+exportedPlain sheet m fuel = let e : Plain.Ended = plain sheet m fuel in plainLeft (plainResult (e .answer)) (e .memory)
+
+-- the result, the lent rule memory, the lent runs that both engines have, and the handler space
+pub record TaggedLeft : Type 0 where
+  pub result : LuvrodanResult
+  pub row : List ℤ
+  pub memory : Memory
+  pub handler : List ℤ
+
+abbrev pub taggedLeft : LuvrodanResult → List ℤ → Memory → List ℤ → TaggedLeft
+taggedLeft r row m handler = record { result = r; row = row; memory = m; handler = handler }
+
+-- of the sheet, the table's bytes, the lent rule memory, the lent runs, the handler space and the allowance
+unfoldable pub exportedTagged : List ℕ → List ℕ → List ℤ → Memory → List ℤ → ℕ → TaggedLeft
+exportedTagged sheet bytes lent m handler fuel =
+    let e : Tagged.Ended = tagged sheet bytes (givenRow lent) m handler fuel in
+    taggedLeft (taggedResult (e .answer)) (leftRow (e .row) lent) (e .memory) (e .handler)

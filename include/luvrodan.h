@@ -1,0 +1,146 @@
+/*
+ * The labelled sheet machine: the C interface to the proved engines.
+ *
+ * "Document 01" is the description of the machine; its numbers of commands, refusals and stops are used here.
+ *
+ * Every run of words or bytes is lent as a pointer and the number of its elements, for the time of the call. A
+ * pointer is never null and is aligned for its element, also where the number is 0. A run that is not const overlaps
+ * no other run of the same call. Nothing is kept after a call, nothing is allocated, and calls on different memory
+ * may go on at the same time.
+ *
+ * Built for x86-64 Linux (System V calling convention).
+ */
+#ifndef LUVRODAN_H
+#define LUVRODAN_H
+
+#include <stddef.h>
+#include <stdint.h>
+
+#ifdef __cplusplus
+extern "C" {
+#endif
+
+/* Limits of document 01. */
+#define LUVRODAN_COMMAND_LIMIT 4096      /* commands of a sheet */
+#define LUVRODAN_CELL_LIMIT 1024         /* cells */
+#define LUVRODAN_TABLE_LIMIT 512         /* bytes of a rule table */
+#define LUVRODAN_HANDLER_LIMIT 8192      /* kernel commands of a handler */
+#define LUVRODAN_FUEL_LIMIT 1000000      /* allowance: steps of a run */
+#define LUVRODAN_STACK_WORDS 768         /* 256 stack entries of three words: kind (0 value, 1 frame), number, label */
+#define LUVRODAN_RULE_MEMORY_WORDS 7     /* code, P, L1, L2, L3, new place label, result label */
+#define LUVRODAN_PROGRAM_WORDS 8192      /* enough for any sheet: two words a command: code, operand or 0 */
+#define LUVRODAN_HANDLER_WORDS 16384     /* enough for any handler: two words a command */
+#define LUVRODAN_PAGE_LIMIT 30720        /* bytes of the longest page: 1,024 lines of at most 30 bytes */
+
+/* Refusals (luvrodan_result.refusal). */
+enum {
+    LUVRODAN_ACCEPTED = 0,
+    LUVRODAN_REFUSED_COMMANDS = 1,       /* a 4,097th command; position: its byte offset */
+    LUVRODAN_REFUSED_CODE = 2,           /* a code that is not 01 to 0b; position: its offset */
+    LUVRODAN_REFUSED_OPERAND = 3,        /* a cut operand; position: the command's offset */
+    LUVRODAN_REFUSED_CELLS = 4,          /* runs of cells that differ in length (the shorter), or over 1,024 (1,024) */
+    LUVRODAN_REFUSED_LABEL = 5,          /* a label word outside 0 to 2^32-1; position: the first such cell */
+    LUVRODAN_REFUSED_TABLE = 6,          /* no rule table; position: 512 where it is longer, else the first faulty byte */
+    LUVRODAN_REFUSED_RULE_MEMORY = 7,    /* neither empty nor an allowed row of this table, or not seven words; 0 */
+    LUVRODAN_REFUSED_SPACE = 8,          /* too short: 1 program, 2 stack, 3 handler; the first such */
+    LUVRODAN_REFUSED_FUEL = 9            /* an allowance over 1,000,000; 0 */
+};
+
+/* Stops (luvrodan_result.stop, where refusal is 0). */
+enum {
+    LUVRODAN_STOP_END = 0,               /* the place equals the number of commands */
+    LUVRODAN_STOP_FUEL = 1,              /* the allowance is spent */
+    LUVRODAN_STOP_PLACE = 2,             /* the place is outside the sheet */
+    LUVRODAN_STOP_VALUE = 3,             /* a value is needed and none is there */
+    LUVRODAN_STOP_FRAME = 4,             /* a frame is needed and none is on top */
+    LUVRODAN_STOP_ADDRESS = 5,           /* an address outside the cells */
+    LUVRODAN_STOP_DENIED = 6,            /* the rule does not allow the command */
+    LUVRODAN_STOP_STACK = 7,             /* the stack is full */
+    LUVRODAN_STOP_OUTPUT = 8             /* the output space is full */
+};
+
+/*
+ * What a run came to. Where refusal is not 0, position is the refusal's place and every later field is 0. Where it
+ * is 0, position is 0 and the rest is as document 01 gives it for the run's stop; faults and kernel_steps are 0 from
+ * the plain engine.
+ */
+typedef struct {
+    uint64_t refusal;
+    uint64_t position;
+    uint64_t stop;
+    uint64_t steps;
+    int64_t pc;                          /* number of the next command */
+    uint64_t pc_label;                   /* the place's label P */
+    uint64_t depth;                      /* entries on the stack */
+    uint64_t lines;                      /* lines written */
+    uint64_t faults;
+    uint64_t kernel_steps;
+} luvrodan_result;
+
+/*
+ * Runs a sheet under the standard rules.
+ *
+ * values, labels: the cells; Store changes them. program: two words a command. stack: 768 words. numbers, marks: the
+ * output space, a number word and a label word for each line; the shorter sets how many lines fit.
+ *
+ * Refusals, in this order: 1, 2, 3 (sheet), 4, 5 (cells), 8 at 1 or 2 (spaces), 9 (allowance). A refused call
+ * changes no lent word.
+ *
+ * After an accepted run program holds the sheet's commands from its start; stack the entries, bottom first, with
+ * dropped entries above as they were; numbers and marks the lines from their start; values and labels the cells.
+ * All other lent words are as they came.
+ */
+luvrodan_result luvrodan_plain(const uint8_t *sheet, size_t sheet_length,
+                               int64_t *values, size_t value_count,
+                               int64_t *labels, size_t label_count,
+                               int64_t *program, size_t program_words,
+                               int64_t *stack, size_t stack_words,
+                               int64_t *numbers, size_t number_count,
+                               int64_t *marks, size_t mark_count,
+                               uint64_t fuel);
+
+/*
+ * Runs a sheet on the tag engine, under the rules of a table.
+ *
+ * As luvrodan_plain, and further: table: the rules, operator first. rule_memory: exactly seven words, read at the
+ * start and written at the end; seven zeros mean empty. handler: two words a kernel command (codes as on sheets, 0c
+ * Or, 0d Dup, 0e Swap), luvrodan_handler_count of them.
+ *
+ * Refusals, in this order: 1, 2, 3 (sheet), 4, 5 (cells), 6 (rules), 7 (rule memory), 8 at 1, 2 or 3 (spaces), 9
+ * (allowance). A refused call changes no lent word.
+ *
+ * After an accepted run handler holds the table's handler from its start and rule_memory the rule memory; words
+ * beyond are as they came.
+ */
+luvrodan_result luvrodan_tagged(const uint8_t *sheet, size_t sheet_length,
+                                int64_t *values, size_t value_count,
+                                int64_t *labels, size_t label_count,
+                                const uint8_t *table, size_t table_length,
+                                int64_t *rule_memory, size_t rule_memory_words,
+                                int64_t *program, size_t program_words,
+                                int64_t *stack, size_t stack_words,
+                                int64_t *handler, size_t handler_words,
+                                int64_t *numbers, size_t number_count,
+                                int64_t *marks, size_t mark_count,
+                                uint64_t fuel);
+
+/* How many kernel commands the handler of this table has, 1 to 8,192; 0 where the bytes are no rule table. */
+uint64_t luvrodan_handler_count(const uint8_t *table, size_t table_length);
+
+/*
+ * status 0: the page is the buffer's first `length` bytes, and the rest is as it came. status 1: the buffer is
+ * shorter than LUVRODAN_PAGE_LIMIT, whatever the job; nothing is written, and length is LUVRODAN_PAGE_LIMIT.
+ */
+typedef struct {
+    uint64_t status;
+    uint64_t length;
+} luvrodan_page_result;
+
+/* The page of a job: what the program `page` prints for these bytes on standard input. */
+luvrodan_page_result luvrodan_page(const uint8_t *job, size_t job_length, uint8_t *page, size_t page_length);
+
+#ifdef __cplusplus
+}
+#endif
+
+#endif

@@ -1,0 +1,178 @@
+//! What is held to the model: an engine behind one trait. Here is the model itself as an engine, and variants of it
+//! with one deliberate fault each, on which the tests are tried.
+
+use model::engine::{judged, plain, tagged, Lent, Report};
+use model::page::page;
+use model::rules::{standard, Labels, Question, Table};
+use model::sample::Sample;
+use model::{flows, Refusal};
+
+/// An answer as the C interface gives it: refusal, position, stop, steps, pc, its label, depth, lines, faults, kernel
+/// steps.
+#[derive(Clone, Copy, Debug, PartialEq, Eq)]
+pub struct Answer {
+    pub words: [u64; 10],
+}
+
+impl From<Result<Report, Refusal>> for Answer {
+    fn from(result: Result<Report, Refusal>) -> Answer {
+        let words = match result {
+            Err(refusal) => [refusal.number, refusal.place, 0, 0, 0, 0, 0, 0, 0, 0],
+            Ok(report) => [
+                0,
+                0,
+                report.stop as u64,
+                report.steps,
+                report.place as u64,
+                report.place_label.into(),
+                report.depth,
+                report.lines,
+                report.faults,
+                report.kernel_steps,
+            ],
+        };
+        Answer { words }
+    }
+}
+
+/// The longest page: 1,024 lines of at most 30 bytes.
+pub const PAGE_LIMIT: usize = 30_720;
+
+pub trait Backend {
+    fn plain(&self, sheet: &[u8], lent: &mut Lent, fuel: u64) -> Answer;
+    fn tagged(&self, sheet: &[u8], table: &[u8], lent: &mut Lent, fuel: u64) -> Answer;
+    /// Kernel commands of the table's handler; 0 where the bytes are no table.
+    fn handler_count(&self, table: &[u8]) -> u64;
+    /// Status and length of the job's page, which is written to the buffer.
+    fn page(&self, job: &[u8], buffer: &mut [u8]) -> (u64, u64);
+}
+
+/// The page of a job as the C interface gives it.
+pub fn model_page(job: &[u8], buffer: &mut [u8]) -> (u64, u64) {
+    if buffer.len() < PAGE_LIMIT {
+        return (1, PAGE_LIMIT as u64);
+    }
+    let text = page(job);
+    buffer[..text.len()].copy_from_slice(text.as_bytes());
+    (0, text.len() as u64)
+}
+
+/// The model as an engine.
+pub struct Itself;
+
+fn sample(table: &[u8]) -> Sample {
+    Table::parse(table).map_or(Sample::default(), |table| Sample::of(&table))
+}
+
+impl Backend for Itself {
+    fn plain(&self, sheet: &[u8], lent: &mut Lent, fuel: u64) -> Answer {
+        plain(sheet, lent, fuel).into()
+    }
+
+    fn tagged(&self, sheet: &[u8], table: &[u8], lent: &mut Lent, fuel: u64) -> Answer {
+        tagged(sheet, table, sample(table).handler(), lent, fuel).answer.into()
+    }
+
+    fn handler_count(&self, table: &[u8]) -> u64 {
+        sample(table).handler().count as u64
+    }
+
+    fn page(&self, job: &[u8], buffer: &mut [u8]) -> (u64, u64) {
+        model_page(job, buffer)
+    }
+}
+
+/// Faults that an engine might have.
+#[derive(Clone, Copy, Debug, PartialEq, Eq)]
+pub enum Fault {
+    /// Output's label leaves out P.
+    OutputWithoutPlace,
+    /// Bnz does not raise P.
+    BranchWithoutPlace,
+    /// Store is tested on the new label and not on the old one.
+    StoreOnNewLabel,
+    /// Ret keeps P.
+    RetKeepsPlace,
+    /// A page's last newline is missing.
+    PageCut,
+    /// The word after the last line is written too.
+    LineTooMany,
+    /// A −1 pair is taken as an allowed row at the start.
+    DeniedRowAccepted,
+    /// A fault too many is counted where there were any.
+    FaultTooMany,
+    /// The handler allows what the table does not.
+    HandlerAllows,
+}
+
+pub const FAULTS: [Fault; 9] = [
+    Fault::OutputWithoutPlace,
+    Fault::BranchWithoutPlace,
+    Fault::StoreOnNewLabel,
+    Fault::RetKeepsPlace,
+    Fault::PageCut,
+    Fault::LineTooMany,
+    Fault::DeniedRowAccepted,
+    Fault::FaultTooMany,
+    Fault::HandlerAllows,
+];
+
+/// The model with one fault.
+pub struct Faulty(pub Fault);
+
+impl Faulty {
+    /// The standard rules with the fault.
+    fn rule(&self, question: &Question) -> Option<Labels> {
+        let right = standard(question);
+        let input = |index: usize| question.inputs[index].unwrap_or(0);
+        match (self.0, question.code) {
+            (Fault::OutputWithoutPlace, 0x04) => Some(Labels { result: input(0), ..right? }),
+            (Fault::BranchWithoutPlace, 0x09) => Some(Labels { place: question.place, ..right? }),
+            (Fault::StoreOnNewLabel, 0x07) => {
+                let result = input(0) | input(1) | question.place;
+                flows(input(0) | question.place, result).then_some(Labels { place: question.place, result })
+            }
+            (Fault::RetKeepsPlace, 0x0b) => Some(Labels { place: input(0) | question.place, ..right? }),
+            _ => right,
+        }
+    }
+}
+
+impl Backend for Faulty {
+    fn plain(&self, sheet: &[u8], lent: &mut Lent, fuel: u64) -> Answer {
+        let answer = judged(sheet, lent, fuel, &mut |question: &_| self.rule(question));
+        if let (Fault::LineTooMany, Ok(report)) = (self.0, answer) {
+            if let Some(word) = lent.numbers.get_mut(report.lines as usize) {
+                *word = 0;
+            }
+        }
+        answer.into()
+    }
+
+    fn tagged(&self, sheet: &[u8], table: &[u8], lent: &mut Lent, fuel: u64) -> Answer {
+        if self.0 == Fault::DeniedRowAccepted && lent.rule_memory.ends_with(&[-1, -1]) {
+            lent.rule_memory.fill(0);
+        }
+        let mut sample = sample(table);
+        if self.0 == Fault::HandlerAllows {
+            sample.allow_all();
+        }
+        let mut answer = Answer::from(tagged(sheet, table, sample.handler(), lent, fuel).answer);
+        if self.0 == Fault::FaultTooMany && answer.words[8] > 0 {
+            answer.words[8] += 1;
+        }
+        answer
+    }
+
+    fn handler_count(&self, table: &[u8]) -> u64 {
+        Itself.handler_count(table)
+    }
+
+    fn page(&self, job: &[u8], buffer: &mut [u8]) -> (u64, u64) {
+        let (status, length) = model_page(job, buffer);
+        if self.0 == Fault::PageCut && status == 0 {
+            return (status, length.saturating_sub(1));
+        }
+        (status, length)
+    }
+}

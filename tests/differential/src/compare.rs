@@ -1,0 +1,175 @@
+//! Holds an engine to the model: every word of the answer and every lent word, also of refused starts.
+
+use crate::backend::{Answer, Backend, PAGE_LIMIT};
+use crate::generate::{job, start, Start};
+use crate::random::Random;
+use crate::shrink::shrink;
+use crate::tally::Tally;
+use model::engine::{judged, tagged, Handler, Lent};
+use model::page::{page, read};
+use model::rules::{standard, Question, Table, STANDARD};
+
+/// Which lent words differ, if any do.
+fn lent_difference(engine: &Lent, model: &Lent) -> Option<String> {
+    let runs = [
+        ("values", &engine.values, &model.values),
+        ("labels", &engine.labels, &model.labels),
+        ("rule memory", &engine.rule_memory, &model.rule_memory),
+        ("program", &engine.program, &model.program),
+        ("stack", &engine.stack, &model.stack),
+        ("handler", &engine.handler, &model.handler),
+        ("numbers", &engine.numbers, &model.numbers),
+        ("marks", &engine.marks, &model.marks),
+    ];
+    for (name, engine, model) in runs {
+        if engine == model {
+            continue;
+        }
+        let index = engine.iter().zip(model).position(|(left, right)| left != right)?;
+        return Some(format!("{name}[{index}]: engine {}, model {}", engine[index], model[index]));
+    }
+    None
+}
+
+fn same(what: &str, engine: (Answer, &Lent), model: (Answer, &Lent)) -> Result<(), String> {
+    if engine.0 != model.0 {
+        return Err(format!("{what}: engine answers {:?}, model {:?}", engine.0.words, model.0.words));
+    }
+    match lent_difference(engine.1, model.1) {
+        Some(difference) => Err(format!("{what}: {difference}")),
+        None => Ok(()),
+    }
+}
+
+fn compare_plain(backend: &dyn Backend, start: &Start, tally: &mut Tally) -> Result<(), String> {
+    let mut by_engine = start.lent.clone();
+    let engine = backend.plain(&start.sheet, &mut by_engine, start.fuel);
+    let mut by_model = start.lent.clone();
+    let model = judged(&start.sheet, &mut by_model, start.fuel, &mut |question: &Question| {
+        tally.judged(question);
+        standard(question)
+    });
+    let model = Answer::from(model);
+    tally.plain.note(&model);
+    same("plain", (engine, &by_engine), (model, &by_model))
+}
+
+fn compare_tagged(backend: &dyn Backend, start: &Start, tally: &mut Tally) -> Result<(), String> {
+    let count = backend.handler_count(&start.table) as usize;
+    let table = Table::read(&start.table);
+    let is_table = table.is_ok();
+    if is_table != (1..=model::kernel::COMMANDS).contains(&count) {
+        return Err(format!("handler count {count}, table: {is_table}"));
+    }
+    let mut by_engine = start.lent.clone();
+    let engine = backend.tagged(&start.sheet, &start.table, &mut by_engine, start.fuel);
+    let mut by_model = start.lent.clone();
+    // The handler is the engine's own: the model takes its words from where the engine left them.
+    let words = &by_engine.handler[..(2 * count).min(by_engine.handler.len())];
+    let model = tagged(&start.sheet, &start.table, Handler { count, words }, &mut by_model, start.fuel);
+    if let Some(wrong) = model.wrong {
+        return Err(format!("handler: {wrong:?}"));
+    }
+    let answer = Answer::from(model.answer);
+    tally.tagged.note(&answer);
+    if answer.words[0] == 0 {
+        if let (Ok(table), true) = (&table, start.table != STANDARD) {
+            tally.other_table(table, count);
+        }
+        tally.filled_memories += u64::from(start.lent.rule_memory.iter().any(|&word| word != 0));
+    }
+    if let (6, Err((fault, _))) = (answer.words[0], table) {
+        tally.table_fault(fault);
+    }
+    same("tagged", (engine, &by_engine), (answer, &by_model))
+}
+
+fn compare_page(backend: &dyn Backend, random: &mut Random, tally: &mut Tally) -> Result<(), String> {
+    let job = job(random);
+    let length = match random.weighted(&[90, 8, 2]) {
+        0 => PAGE_LIMIT,
+        1 => PAGE_LIMIT + random.below(40),
+        _ => random.below(PAGE_LIMIT),
+    };
+    let filling = random.word() as u8;
+    let mut buffer = vec![filling; length];
+    let (status, written) = backend.page(&job, &mut buffer);
+    let expected = if length < PAGE_LIMIT {
+        tally.short_buffers += 1;
+        if (status, written) != (1, PAGE_LIMIT as u64) {
+            return Err(format!("page: a short buffer gives status {status}, length {written}"));
+        }
+        String::new()
+    } else {
+        let text = page(&job);
+        if (status, written) != (0, text.len() as u64) {
+            return Err(format!("page: status {status}, length {written}, model {}", text.len()));
+        }
+        text
+    };
+    if &buffer[..expected.len()] != expected.as_bytes() {
+        let text = String::from_utf8_lossy(&buffer[..expected.len()]);
+        return Err(format!("page: engine {text:?}, model {expected:?}"));
+    }
+    if buffer[expected.len()..].iter().any(|&byte| byte != filling) {
+        return Err("page: bytes after the page are not as they came".into());
+    }
+    match read(&job) {
+        Err((fault, _)) => tally.job_fault(fault),
+        Ok(_) if expected.starts_with("refused") => tally.job_refusals += 1,
+        Ok(_) => {
+            tally.pages += 1;
+            tally.page_bytes += expected.len() as u64;
+        }
+    }
+    Ok(())
+}
+
+/// Makes one case of a seed and holds the engine to the model on it.
+pub fn compare_case(backend: &dyn Backend, seed: u64, case: u64, tally: &mut Tally) -> Result<(), String> {
+    let mut random = Random::of_case(seed, case);
+    if random.percent(15) {
+        return compare_page(backend, &mut random, tally)
+            .map_err(|difference| format!("seed {seed} case {case}: {difference}"));
+    }
+    let handler_count = |table: &[u8]| backend.handler_count(table);
+    let start = start(&mut random, handler_count);
+    compare_start(backend, &start, tally).map_err(|difference| {
+        let fails = |start: &Start| compare_start(backend, start, &mut Tally::default()).is_err();
+        let least = shrink(start, handler_count, fails);
+        let least_difference = compare_start(backend, &least, &mut Tally::default());
+        let least_difference = least_difference.err().unwrap_or_default();
+        format!("seed {seed} case {case}: {difference}\nsmaller: {least_difference}\n{}", describe(&least))
+    })
+}
+
+fn compare_start(backend: &dyn Backend, start: &Start, tally: &mut Tally) -> Result<(), String> {
+    compare_plain(backend, start, tally)?;
+    compare_tagged(backend, start, tally)
+}
+
+/// A start in words that a person can follow.
+pub fn describe(start: &Start) -> String {
+    let sheet = match model::sheet::decode(&start.sheet) {
+        Ok(commands) => format!("{commands:?}"),
+        Err(_) => format!("{:02x?}", start.sheet),
+    };
+    let lent = &start.lent;
+    let cells = lent.values.len().min(12);
+    format!(
+        "  sheet {sheet}\n  table {:02x?}\n  values {:?}\n  labels {:?}\n  rule memory {:?}\n  lengths: cells {} {} program {} \
+         stack {} handler {} output {} {}\n  fuel {}",
+        start.table,
+        &lent.values[..cells],
+        &lent.labels[..cells.min(lent.labels.len())],
+        lent.rule_memory,
+        lent.values.len(),
+        lent.labels.len(),
+        lent.program.len(),
+        lent.stack.len(),
+        lent.handler.len(),
+        lent.numbers.len(),
+        lent.marks.len(),
+        start.fuel
+    )
+}

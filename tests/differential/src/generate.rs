@@ -1,0 +1,700 @@
+//! Makes starts and jobs. Sheets are built of loops, calls, branches on hidden data and stores, so that runs go deep;
+//! then some of them are damaged, as are cells, tables, rule memories and spaces.
+
+use crate::random::Random;
+use model::engine::Lent;
+use model::rules::{
+    result_is_empty, LabelTree, Question, Rule, Table, YesNoTree, DEPTH, STANDARD, TABLE_BYTES,
+};
+use model::sheet::{decode, encode, inputs_of, Command, Command::*};
+use model::{Atom, Label};
+
+/// A start of either engine.
+#[derive(Clone, Debug)]
+pub struct Start {
+    pub sheet: Vec<u8>,
+    pub table: Vec<u8>,
+    pub lent: Lent,
+    pub fuel: u64,
+}
+
+// ---- atoms ---------------------------------------------------------------------------------------------------------
+
+/// A label, mostly of the first few owners, so that labels flow to one another in some cases and not in others.
+pub fn label(random: &mut Random) -> Label {
+    match random.weighted(&[35, 40, 10, 5, 10]) {
+        0 => 0,
+        1 => random.pick(&[1, 2, 3, 4, 5, 7]),
+        2 => 0x8000_0000,
+        3 => 0xffff_ffff,
+        _ => random.word() as Label,
+    }
+}
+
+/// A number, mostly small, so that it may serve as an address, a command number or a truth value.
+pub fn number(random: &mut Random) -> i64 {
+    match random.weighted(&[25, 45, 10, 10, 10]) {
+        0 => 0,
+        1 => random.between(1, 12) as i64,
+        2 => -(random.between(1, 12) as i64),
+        3 => random.pick(&[i64::MIN, i64::MAX, i64::MAX - 1, i64::MIN + 1, 1 << 32, -1 << 32]),
+        _ => random.word() as i64,
+    }
+}
+
+pub fn cells(random: &mut Random) -> Vec<Atom> {
+    let count = match random.weighted(&[3, 90, 6, 1]) {
+        0 => 0,
+        1 => random.between(1, 8),
+        2 => random.between(9, 60),
+        _ => random.between(1020, 1024),
+    };
+    let mut cell = || {
+        let number = if random.percent(45) { random.below(count) as i64 } else { number(random) };
+        Atom { number, label: label(random) }
+    };
+    (0..count).map(|_| cell()).collect()
+}
+
+// ---- sheets --------------------------------------------------------------------------------------------------------
+
+/// Builds a sheet snippet by snippet; command numbers are known, so that jumps and calls go where they should.
+struct Builder<'a> {
+    random: &'a mut Random,
+    commands: Vec<Command>,
+    cells: usize,
+}
+
+impl Builder<'_> {
+    fn put(&mut self, command: Command) {
+        self.commands.push(command);
+    }
+
+    fn here(&self) -> i64 {
+        self.commands.len() as i64
+    }
+
+    fn address(&mut self) -> i64 {
+        if self.cells == 0 || self.random.below(150) == 0 {
+            return number(self.random);
+        }
+        self.random.below(self.cells) as i64
+    }
+
+    /// Leaves one value on the stack.
+    fn value(&mut self, depth: usize) {
+        match self.random.weighted(&[30, 45, if depth > 0 { 20 } else { 0 }, 2]) {
+            0 => {
+                let operand = number(self.random);
+                self.put(Push(operand));
+            }
+            1 => self.cell(),
+            2 => {
+                self.value(depth - 1);
+                self.value(depth - 1);
+                let command = self.random.pick(&[Add, Sub]);
+                self.put(command);
+            }
+            _ => {
+                self.cell();
+                self.put(Load);
+            }
+        }
+    }
+
+    fn cell(&mut self) {
+        let address = self.address();
+        self.put(Push(address));
+        self.put(Load);
+    }
+
+    /// Writes a distance over the branch at `branch`, to land here.
+    fn land(&mut self, branch: usize) {
+        self.commands[branch] = Bnz((self.here() - branch as i64) as i16);
+    }
+
+    fn branch_back(&mut self, to: i64) {
+        let distance = to - self.here();
+        self.put(Bnz(distance as i16));
+    }
+
+    fn body(&mut self, depth: usize) {
+        for _ in 0..self.random.between(0, 3) {
+            self.snippet(depth);
+        }
+    }
+
+    fn snippet(&mut self, depth: usize) {
+        if self.commands.len() > 600 {
+            return;
+        }
+        let deeper = if depth > 0 { 12 } else { 0 };
+        match self.random.weighted(&[
+            16,
+            14,
+            6,
+            deeper,
+            deeper,
+            deeper,
+            deeper / 2,
+            deeper / 2,
+            2,
+            1,
+            1,
+            1,
+            1,
+            1,
+        ]) {
+            0 => {
+                self.value(2);
+                self.put(Output);
+            }
+            1 => {
+                self.value(2);
+                if self.random.percent(92) {
+                    let address = self.address();
+                    self.put(Push(address));
+                } else {
+                    self.cell();
+                }
+                self.put(Store);
+            }
+            2 => {
+                self.value(1);
+                if self.random.percent(70) {
+                    self.put(Pop);
+                }
+            }
+            3 => self.branch(depth),
+            4 => self.count_down(depth),
+            5 => self.call(depth),
+            6 => self.jump(depth),
+            7 => self.probe(),
+            // Round and round until the stack, the output space or the allowance ends it.
+            8 => {
+                let start = self.here();
+                let command = self.random.pick(&[Push(3), Push(-1)]);
+                self.put(command);
+                self.put(Push(1));
+                self.branch_back(start);
+            }
+            9 => {
+                let start = self.here();
+                self.value(0);
+                self.put(Output);
+                self.put(Push(1));
+                self.branch_back(start);
+            }
+            10 => {
+                let start = self.here();
+                self.body(0);
+                self.put(Push(start));
+                self.put(Jump);
+            }
+            11 => {
+                let command = any_command(self.random);
+                self.put(command);
+            }
+            12 => self.put(Ret),
+            _ => {
+                let target = number(self.random);
+                self.put(Push(target));
+                let command = self.random.pick(&[Jump, Load, Call]);
+                self.put(command);
+            }
+        }
+    }
+
+    /// Skips a body on data, mostly hidden.
+    fn branch(&mut self, depth: usize) {
+        self.value(1);
+        let branch = self.commands.len();
+        self.put(Bnz(0));
+        self.body(depth - 1);
+        self.land(branch);
+    }
+
+    /// A loop whose counter is a cell.
+    fn count_down(&mut self, depth: usize) {
+        let counter = self.address();
+        let rounds = self.random.between(1, 9) as i64;
+        self.put(Push(rounds));
+        self.put(Push(counter));
+        self.put(Store);
+        let start = self.here();
+        self.body(depth - 1);
+        for command in [Push(1), Push(counter), Load, Sub, Push(counter), Store, Push(counter), Load] {
+            self.put(command);
+        }
+        self.branch_back(start);
+    }
+
+    /// A call to a body that stands behind the place it returns to, its target pushed or fetched from a cell.
+    fn call(&mut self, depth: usize) {
+        self.value(1);
+        let target = self.commands.len();
+        self.put(Push(0));
+        if self.random.percent(25) {
+            let address = self.address();
+            for command in [Push(address), Store, Push(address), Load] {
+                self.put(command);
+            }
+        }
+        self.put(Call);
+        let skip = self.commands.len();
+        self.put(Push(0));
+        self.put(Jump);
+        self.commands[target] = Push(self.here());
+        match self.random.weighted(&[40, 25, 25, 10]) {
+            0 => self.put(Pop),
+            1 => self.put(Output),
+            2 => {
+                let branch = self.commands.len();
+                self.put(Bnz(0));
+                self.body(depth - 1);
+                self.land(branch);
+            }
+            _ => {}
+        }
+        self.body(depth - 1);
+        if self.random.percent(92) {
+            self.put(Ret);
+        }
+        self.commands[skip] = Push(self.here());
+    }
+
+    /// A call that may change a cell depending on another one; back at the caller's label the cell is printed, and
+    /// then a constant.
+    fn probe(&mut self) {
+        let cell = self.address();
+        self.cell();
+        let target = self.commands.len();
+        self.put(Push(0));
+        self.put(Call);
+        for command in [Push(cell), Load, Output, Push(1), Output] {
+            self.put(command);
+        }
+        let skip = self.commands.len();
+        self.put(Push(0));
+        self.put(Jump);
+        self.commands[target] = Push(self.here());
+        let number = number(self.random);
+        for command in [Bnz(4), Push(number), Push(cell), Store, Ret] {
+            self.put(command);
+        }
+        self.commands[skip] = Push(self.here());
+    }
+
+    /// A jump over a body, in some cases to a place that a cell's number moves.
+    fn jump(&mut self, depth: usize) {
+        let target = self.commands.len();
+        self.put(Push(0));
+        if self.random.percent(30) {
+            self.cell();
+            self.put(Add);
+        }
+        self.put(Jump);
+        self.body(depth - 1);
+        self.commands[target] = Push(self.here());
+    }
+}
+
+fn any_command(random: &mut Random) -> Command {
+    match random.below(11) {
+        0 => Add,
+        1 => Sub,
+        2 => Pop,
+        3 => Output,
+        4 => Push(number(random)),
+        5 => Load,
+        6 => Store,
+        7 => Jump,
+        8 => Bnz(random.between(0, 12) as i16 - 6),
+        9 => Call,
+        _ => Ret,
+    }
+}
+
+/// The commands of a sheet for so many cells.
+pub fn commands(random: &mut Random, cells: usize) -> Vec<Command> {
+    match random.weighted(&[900, 98, 2]) {
+        0 => {
+            let snippets = random.between(1, 8);
+            let mut builder = Builder { random, commands: Vec::new(), cells };
+            for _ in 0..snippets {
+                builder.snippet(3);
+            }
+            let mut commands = builder.commands;
+            if random.percent(10) && !commands.is_empty() {
+                let index = random.below(commands.len());
+                commands[index] = any_command(random);
+            }
+            commands
+        }
+        1 => (0..random.between(0, 30))
+            .map(|_| if random.percent(45) { Push(random.between(0, 9) as i64) } else { any_command(random) })
+            .collect(),
+        _ => {
+            let pair = random.pick(&[[Push(1), Pop], [Push(2), Output], [Push(0), Bnz(1)]]);
+            pair.into_iter().cycle().take(random.between(4090, 4100)).collect()
+        }
+    }
+}
+
+/// Damages bytes: one changed, inserted, removed, or the end cut off.
+fn damage(random: &mut Random, bytes: &mut Vec<u8>, near: &[u8]) {
+    let at = random.below(bytes.len() + 1);
+    let byte = if random.percent(80) { random.pick(near) } else { random.word() as u8 };
+    match random.below(4) {
+        0 if at < bytes.len() => bytes[at] = byte,
+        1 if at < bytes.len() => {
+            bytes.remove(at);
+        }
+        2 => bytes.truncate(at),
+        _ => bytes.insert(at, byte),
+    }
+}
+
+pub fn sheet(random: &mut Random, cells: usize) -> Vec<u8> {
+    let mut bytes = encode(&commands(random, cells));
+    if random.percent(8) {
+        damage(random, &mut bytes, &[0, 1, 2, 3, 4, 5, 6, 7, 8, 9, 10, 11, 12]);
+    }
+    bytes
+}
+
+// ---- rule tables ---------------------------------------------------------------------------------------------------
+
+fn label_tree(random: &mut Random, depth: usize, inputs: usize) -> LabelTree {
+    if depth > 1 && random.percent(45) {
+        let left = label_tree(random, depth - 1, inputs);
+        let right = label_tree(random, depth - 1, inputs);
+        return LabelTree::Join(left.into(), right.into());
+    }
+    match random.below(4) {
+        0 => LabelTree::Empty,
+        1 => LabelTree::Place,
+        _ if inputs > 0 => LabelTree::Input(random.between(1, inputs)),
+        _ => LabelTree::Place,
+    }
+}
+
+fn yes_no_tree(random: &mut Random, depth: usize, inputs: usize) -> YesNoTree {
+    let deeper = if depth > 1 { 25 } else { 0 };
+    match random.weighted(&[25, 2 * deeper, deeper, deeper]) {
+        0 => YesNoTree::True,
+        1 => YesNoTree::Flows(label_tree(random, depth - 1, inputs), label_tree(random, depth - 1, inputs)),
+        2 => YesNoTree::And(
+            yes_no_tree(random, depth - 1, inputs).into(),
+            yes_no_tree(random, depth - 1, inputs).into(),
+        ),
+        _ => YesNoTree::Or(
+            yes_no_tree(random, depth - 1, inputs).into(),
+            yes_no_tree(random, depth - 1, inputs).into(),
+        ),
+    }
+}
+
+/// A label expression that is just as deep as said, on one side.
+fn deep_label(random: &mut Random, depth: usize, inputs: usize) -> LabelTree {
+    if depth <= 1 {
+        return label_tree(random, 1, inputs);
+    }
+    let deep = Box::new(deep_label(random, depth - 1, inputs));
+    let flat = Box::new(label_tree(random, 1, inputs));
+    if random.percent(50) {
+        LabelTree::Join(deep, flat)
+    } else {
+        LabelTree::Join(flat, deep)
+    }
+}
+
+/// Makes a leaf of a label expression a join, two bytes longer, unless it stands eight deep.
+fn grow_label(random: &mut Random, tree: &mut LabelTree, depth: usize, inputs: usize) {
+    match tree {
+        LabelTree::Join(left, right) => {
+            let side = if random.percent(50) { left } else { right };
+            grow_label(random, side, depth + 1, inputs)
+        }
+        _ if depth < DEPTH => {
+            let other = label_tree(random, 1, inputs);
+            *tree = LabelTree::Join(tree.clone().into(), other.into());
+        }
+        _ => {}
+    }
+}
+
+/// The same for a yes/no expression, whose leaves may become any operator.
+fn grow_yes_no(random: &mut Random, tree: &mut YesNoTree, depth: usize, inputs: usize) {
+    match tree {
+        YesNoTree::And(left, right) | YesNoTree::Or(left, right) => {
+            let side = if random.percent(50) { left } else { right };
+            grow_yes_no(random, side, depth + 1, inputs)
+        }
+        YesNoTree::Flows(from, to) => {
+            let side = if random.percent(50) { from } else { to };
+            grow_label(random, side, depth + 1, inputs)
+        }
+        YesNoTree::True if depth < DEPTH => {
+            let yes = Box::new(YesNoTree::True);
+            *tree = match random.below(3) {
+                0 => YesNoTree::And(yes.clone(), yes),
+                1 => YesNoTree::Or(yes.clone(), yes),
+                _ => YesNoTree::Flows(label_tree(random, 1, inputs), label_tree(random, 1, inputs)),
+            };
+        }
+        YesNoTree::True => {}
+    }
+}
+
+/// A table of so many bytes, or a little fewer. Expressions have odd lengths, so that a table never has 512.
+fn grown_table(random: &mut Random, length: usize) -> Vec<u8> {
+    let mut table = Table::parse(&STANDARD).expect("the standard table is a table");
+    let mut bytes = table.bytes();
+    for _ in 0..1000 {
+        if bytes.len() >= length {
+            break;
+        }
+        let index = random.below(11);
+        let code = index as u8 + 1;
+        let inputs = inputs_of(code);
+        let rule = &mut table.rules[index];
+        match random.below(3) {
+            0 => grow_yes_no(random, &mut rule.allowed, 1, inputs),
+            1 if !result_is_empty(code) => grow_label(random, &mut rule.result, 1, inputs),
+            _ => grow_label(random, &mut rule.place, 1, inputs),
+        }
+        bytes = table.bytes();
+    }
+    bytes
+}
+
+/// Puts a random expression in a place of a rule, where one is free.
+fn change_rule(random: &mut Random, rule: &mut Rule, code: u8) {
+    let inputs = inputs_of(code);
+    let depth = random.pick(&[1, 2, 3, 4, 8]);
+    match random.below(3) {
+        0 => rule.allowed = yes_no_tree(random, depth, inputs),
+        1 if random.percent(15) => rule.place = deep_label(random, depth, inputs),
+        1 => rule.place = label_tree(random, depth, inputs),
+        _ if result_is_empty(code) => rule.allowed = yes_no_tree(random, depth, inputs),
+        _ => rule.result = label_tree(random, depth, inputs),
+    }
+}
+
+fn tree_table(random: &mut Random) -> Table {
+    let mut table = Table::parse(&STANDARD).expect("the standard table is a table");
+    let changes = random.pick(&[1, 2, 3, 33]);
+    for _ in 0..changes {
+        let index = random.below(11);
+        change_rule(random, &mut table.rules[index], index as u8 + 1);
+    }
+    table
+}
+
+/// A rule table's bytes: standard, another, or none.
+pub fn table(random: &mut Random) -> Vec<u8> {
+    match random.weighted(&[45, 38, 10, 3, 2, 2]) {
+        0 => STANDARD.to_vec(),
+        1 => {
+            let bytes = tree_table(random).bytes();
+            if bytes.len() > TABLE_BYTES && random.percent(70) {
+                return STANDARD.to_vec();
+            }
+            bytes
+        }
+        2 => {
+            let mut bytes = if random.percent(50) { STANDARD.to_vec() } else { tree_table(random).bytes() };
+            damage(random, &mut bytes, &[0x10, 0x11, 0x12, 0x13, 0x14, 0x15, 0x16, 0x17, 0x18, 0x19]);
+            bytes
+        }
+        3 => {
+            let mut table = Table::parse(&STANDARD).expect("the standard table is a table");
+            let depth = random.between(7, 10);
+            table.rules[random.pick(&[0, 5, 6])].result = deep_label(random, depth, 2);
+            table.bytes()
+        }
+        4 => {
+            let length = random.pick(&[301, 511, 511, 513]);
+            grown_table(random, length)
+        }
+        _ => {
+            let length = random.pick(&[0, 511, 512, 513, 600]);
+            (0..length).map(|_| random.between(0x10, 0x19) as u8).collect()
+        }
+    }
+}
+
+/// Seven words: empty, an allowed row of the table, one that is not, or what is no row at all.
+pub fn rule_memory(random: &mut Random, table: &[u8], first: Option<Command>) -> Vec<i64> {
+    let kind = random.weighted(&[60, 30, 6, 3, 1]);
+    if kind == 0 {
+        return vec![0; 7];
+    }
+    if kind == 4 {
+        let length = random.pick(&[0, 6, 8]);
+        return vec![0; length];
+    }
+    let code = match first {
+        Some(command) if random.percent(60) => command.code(),
+        _ => random.between(1, 11) as u8,
+    };
+    let place = if random.percent(60) { 0 } else { label(random) };
+    let mut question = Question { code, place, inputs: [None; 3] };
+    for input in question.inputs.iter_mut().take(inputs_of(code)) {
+        *input = Some(label(random));
+    }
+    let mut words = question.words().to_vec();
+    match Table::parse(table).ok().and_then(|table| table.answer(&question)) {
+        Some(labels) => words.extend([i64::from(labels.place), i64::from(labels.result)]),
+        None => words.extend([-1, -1]),
+    }
+    match kind {
+        2 => {
+            let index = random.below(7);
+            words[index] = match random.below(4) {
+                0 => -1,
+                1 => 1 << 32,
+                2 => i64::from(label(random)),
+                _ => number(random),
+            };
+        }
+        3 => words[5..].fill(-1),
+        _ => {}
+    }
+    words
+}
+
+// ---- starts --------------------------------------------------------------------------------------------------------
+
+/// A space that needs so many words: mostly enough, in a few cases one or more short.
+fn space(random: &mut Random, needs: usize) -> Vec<i64> {
+    let length = match random.weighted(&[30, 67, 2, 1]) {
+        0 => needs,
+        1 => needs + random.between(1, 7),
+        2 => needs.saturating_sub(1),
+        _ => random.below(needs + 1),
+    };
+    random.words(length)
+}
+
+fn output_length(random: &mut Random) -> usize {
+    match random.weighted(&[5, 45, 45, 5]) {
+        0 => 0,
+        1 => random.between(1, 8),
+        2 => random.between(9, 60),
+        _ => random.between(250, 1100),
+    }
+}
+
+pub fn fuel(random: &mut Random) -> u64 {
+    match random.weighted(&[1200, 3500, 5000, 80, 4, 216]) {
+        0 => random.between(0, 30) as u64,
+        1 => random.between(31, 300) as u64,
+        2 => random.between(301, 1500) as u64,
+        3 => random.between(1501, 20_000) as u64,
+        4 => random.between(999_990, 1_000_000) as u64,
+        _ => random.pick(&[1_000_001, 1_000_002, u64::MAX, 1 << 32]),
+    }
+}
+
+/// A start; `handler_count` is how many kernel commands the handler of a table has.
+pub fn start(random: &mut Random, handler_count: impl Fn(&[u8]) -> u64) -> Start {
+    let cells = cells(random);
+    let sheet = sheet(random, cells.len());
+    let table = table(random);
+    let commands = decode(&sheet);
+    let first = commands.as_ref().ok().and_then(|commands| commands.first().copied());
+    let mut values: Vec<i64> = cells.iter().map(|cell| cell.number).collect();
+    let mut labels: Vec<i64> = cells.iter().map(|cell| cell.label.into()).collect();
+    match random.below(100) {
+        0 => values.push(number(random)),
+        1 => labels.push(0),
+        2 => {
+            let length = random.pick(&[1025, 1026, 2000]);
+            values.resize(length, 1);
+            labels.resize(length - random.below(2), 1);
+        }
+        3 | 4 if !labels.is_empty() => {
+            let index = random.below(labels.len());
+            labels[index] = random.pick(&[-1, 1 << 32, i64::MIN, i64::MAX]);
+        }
+        _ => {}
+    }
+    let program = 2 * commands.map_or(10, |commands| commands.len());
+    let handler = 2 * handler_count(&table) as usize;
+    let lent = Lent {
+        values,
+        labels,
+        rule_memory: rule_memory(random, &table, first),
+        program: space(random, program),
+        stack: space(random, 768),
+        handler: space(random, handler),
+        numbers: {
+            let length = output_length(random);
+            random.words(length)
+        },
+        marks: {
+            let length = output_length(random);
+            random.words(length)
+        },
+    };
+    Start { sheet, table, lent, fuel: fuel(random) }
+}
+
+// ---- jobs ----------------------------------------------------------------------------------------------------------
+
+fn job_cell(random: &mut Random, job: &mut Vec<u8>) {
+    job.push(0x40);
+    job.extend(number(random).to_le_bytes());
+    job.extend(label(random).to_le_bytes());
+}
+
+fn job_field(random: &mut Random, job: &mut Vec<u8>) {
+    if random.percent(50) {
+        job.push(0x41);
+        let fuel = fuel(random).min(u32::MAX.into()) as u32;
+        job.extend(fuel.to_le_bytes());
+    } else {
+        job.push(0x42);
+        job.extend(label(random).to_le_bytes());
+    }
+}
+
+/// A job's bytes, faulty in some cases.
+pub fn job(random: &mut Random) -> Vec<u8> {
+    let cells = match random.weighted(&[985, 10, 5]) {
+        0 => random.between(0, 9),
+        1 => random.between(10, 100),
+        _ => random.between(1022, 1026),
+    };
+    let mut job = Vec::new();
+    for _ in 0..cells {
+        job_cell(random, &mut job);
+        while random.percent(5) {
+            job_field(random, &mut job);
+        }
+    }
+    if random.percent(99) {
+        job.push(0x41);
+        job.extend((random.between(0, 1500) as u32).to_le_bytes());
+    }
+    while random.percent(60) {
+        job_field(random, &mut job);
+    }
+    if random.percent(8) {
+        damage(random, &mut job, &[0x40, 0x41, 0x42, 0x43, 0x44]);
+    }
+    if random.percent(96) {
+        job.push(0x43);
+        job.extend(sheet(random, cells));
+    }
+    if random.percent(3) {
+        job.truncate(random.below(job.len() + 1));
+    }
+    if random.below(400) == 0 {
+        let length = random.pick(&[65_535, 65_536, 65_537, 70_000]);
+        job.resize(length, 3);
+    }
+    job
+}

@@ -1,0 +1,12 @@
+//! Random and damaged starts, from a seed. [`compare`] holds an engine to the model in everything that a caller can
+//! see; [`privacy`] looks for two runs that tell a reader what it may not know.
+
+pub mod backend;
+pub mod compare;
+#[cfg(feature = "engine")]
+pub mod engine;
+pub mod generate;
+pub mod privacy;
+pub mod random;
+pub mod shrink;
+pub mod tally;

@@ -1,0 +1,54 @@
+//! Makes a failing start smaller, as long as it still fails.
+
+use crate::generate::Start;
+use model::rules::STANDARD;
+use model::sheet::{decode, encode};
+
+/// Starts that are a little smaller than this one, the boldest first.
+fn smaller(start: &Start, handler_count: &impl Fn(&[u8]) -> u64) -> Vec<Start> {
+    let mut starts = Vec::new();
+    let mut add = |change: &dyn Fn(&mut Start)| {
+        let mut candidate = start.clone();
+        change(&mut candidate);
+        starts.push(candidate);
+    };
+    if let Ok(commands) = decode(&start.sheet) {
+        for size in [64, 16, 4, 1] {
+            for first in (0..commands.len()).step_by(size) {
+                let last = (first + size).min(commands.len());
+                let rest = [&commands[..first], &commands[last..]].concat();
+                add(&|start| start.sheet = encode(&rest));
+            }
+        }
+    }
+    for fuel in [start.fuel / 2, start.fuel.saturating_sub(1)] {
+        if fuel < start.fuel {
+            add(&|start| start.fuel = fuel);
+        }
+    }
+    if start.table != STANDARD {
+        add(&|start| {
+            start.table = STANDARD.to_vec();
+            start.lent.handler = vec![9; 2 * handler_count(&STANDARD) as usize];
+        });
+    }
+    if start.lent.rule_memory.iter().any(|&word| word != 0) {
+        add(&|start| start.lent.rule_memory = vec![0; 7]);
+    }
+    if !start.lent.values.is_empty() {
+        add(&|start| {
+            start.lent.values.pop();
+            start.lent.labels.pop();
+        });
+    }
+    starts
+}
+
+/// The smallest start that was found on the way down from a failing one.
+pub fn shrink(start: Start, handler_count: impl Fn(&[u8]) -> u64, fails: impl Fn(&Start) -> bool) -> Start {
+    let mut least = start;
+    while let Some(next) = smaller(&least, &handler_count).into_iter().find(&fails) {
+        least = next;
+    }
+    least
+}

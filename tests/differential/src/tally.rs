@@ -1,0 +1,185 @@
+//! What was reached, how often: a test that never meets a stop says nothing about it.
+
+use crate::backend::Answer;
+use model::page::JobFault;
+use model::rules::{Question, Table, TableFault, DEPTH};
+
+const TABLE_FAULTS: [TableFault; 7] = [
+    TableFault::TooLong,
+    TableFault::Unknown,
+    TableFault::Misplaced,
+    TableFault::TooDeep,
+    TableFault::Unsupplied,
+    TableFault::Missing,
+    TableFault::LeftOver,
+];
+
+const JOB_FAULTS: [JobFault; 5] = [
+    JobFault::TooLong,
+    JobFault::UnknownByte,
+    JobFault::CutOperand,
+    JobFault::TooManyCells,
+    JobFault::NoSheet,
+];
+
+/// Counts for one engine.
+#[derive(Clone, Default)]
+pub struct Engine {
+    pub stops: [u64; 9],
+    pub refusals: [u64; 10],
+    /// Refusal 8 by its place.
+    pub spaces: [u64; 4],
+    pub steps: u64,
+    pub lines: u64,
+    pub faults: u64,
+    pub kernel_steps: u64,
+    pub longest: u64,
+}
+
+impl Engine {
+    pub fn note(&mut self, answer: &Answer) {
+        let [refusal, place, stop, steps, _, _, _, lines, faults, kernel_steps] = answer.words;
+        if refusal != 0 {
+            self.refusals[refusal as usize] += 1;
+            if refusal == 8 {
+                self.spaces[place as usize] += 1;
+            }
+            return;
+        }
+        self.stops[stop as usize] += 1;
+        self.steps += steps;
+        self.lines += lines;
+        self.faults += faults;
+        self.kernel_steps += kernel_steps;
+        self.longest = self.longest.max(steps);
+    }
+}
+
+#[derive(Clone, Default)]
+pub struct Tally {
+    pub plain: Engine,
+    pub tagged: Engine,
+    /// Commands that were judged on the plain engine, by code.
+    pub commands: [u64; 12],
+    /// The same at a place whose label is not empty.
+    pub hidden: [u64; 12],
+    /// Refused tables by what is wrong with them.
+    pub table_faults: [u64; 7],
+    /// Tables of accepted runs that are not the standard one; their longest, deepest, and longest handler.
+    pub other_tables: u64,
+    pub longest_table: usize,
+    pub deepest_table: usize,
+    pub longest_handler: usize,
+    /// Runs of the tag engine from a rule memory that was not empty.
+    pub filled_memories: u64,
+    pub pages: u64,
+    pub page_bytes: u64,
+    /// Faulty jobs by what is wrong with them.
+    pub job_faults: [u64; 5],
+    pub job_refusals: u64,
+    pub short_buffers: u64,
+}
+
+impl Tally {
+    pub fn judged(&mut self, question: &Question) {
+        self.commands[usize::from(question.code)] += 1;
+        if question.place != 0 {
+            self.hidden[usize::from(question.code)] += 1;
+        }
+    }
+
+    pub fn table_fault(&mut self, fault: TableFault) {
+        self.table_faults[fault as usize] += 1;
+    }
+
+    /// A table, not the standard one, under which a run was accepted.
+    pub fn other_table(&mut self, table: &Table, handler: usize) {
+        self.other_tables += 1;
+        self.longest_table = self.longest_table.max(table.bytes().len());
+        self.deepest_table = self.deepest_table.max(table.depth());
+        self.longest_handler = self.longest_handler.max(handler);
+    }
+
+    pub fn job_fault(&mut self, fault: JobFault) {
+        self.job_faults[fault as usize] += 1;
+    }
+
+    /// What was not reached though it should be.
+    pub fn missing(&self) -> Vec<String> {
+        let mut missing = Vec::new();
+        let mut want = |name: String, count: u64| {
+            if count == 0 {
+                missing.push(name);
+            }
+        };
+        for (name, engine) in [("plain", &self.plain), ("tagged", &self.tagged)] {
+            for (stop, &count) in engine.stops.iter().enumerate() {
+                want(format!("{name}: stop {stop}"), count);
+            }
+            let rules = name == "tagged";
+            for number in (1..=9).filter(|number| rules || ![6, 7].contains(number)) {
+                want(format!("{name}: refusal {number}"), engine.refusals[number]);
+            }
+            for place in 1..=if rules { 3 } else { 2 } {
+                want(format!("{name}: refusal 8 at {place}"), engine.spaces[place]);
+            }
+        }
+        for code in 0x01..=0x0b {
+            want(format!("command {code:02x}"), self.commands[code]);
+            want(format!("command {code:02x} at a hidden place"), self.hidden[code]);
+        }
+        for (fault, &count) in TABLE_FAULTS.iter().zip(&self.table_faults) {
+            want(format!("{fault:?} in a table"), count);
+        }
+        for (fault, &count) in JOB_FAULTS.iter().zip(&self.job_faults) {
+            want(format!("{fault:?} in a job"), count);
+        }
+        want("another table than the standard one".into(), self.other_tables);
+        want("a table eight deep".into(), u64::from(self.deepest_table == DEPTH));
+        want("a rule memory that is not empty".into(), self.filled_memories);
+        want("a page with lines".into(), self.page_bytes);
+        want("a refused job".into(), self.job_refusals);
+        want("a short page buffer".into(), self.short_buffers);
+        missing
+    }
+
+    pub fn print(&self) {
+        println!("{:>22} {:>12} {:>12}", "", "plain", "tagged");
+        let row = |name: String, plain: u64, tagged: u64| println!("{name:>22} {plain:>12} {tagged:>12}");
+        for stop in 0..9 {
+            row(format!("stop {stop}"), self.plain.stops[stop], self.tagged.stops[stop]);
+        }
+        for number in 1..10 {
+            row(format!("refusal {number}"), self.plain.refusals[number], self.tagged.refusals[number]);
+        }
+        for place in 1..4 {
+            row(format!("refusal 8 at {place}"), self.plain.spaces[place], self.tagged.spaces[place]);
+        }
+        row("steps".into(), self.plain.steps, self.tagged.steps);
+        row("longest run".into(), self.plain.longest, self.tagged.longest);
+        row("lines".into(), self.plain.lines, self.tagged.lines);
+        row("faults".into(), self.plain.faults, self.tagged.faults);
+        row("kernel steps".into(), self.plain.kernel_steps, self.tagged.kernel_steps);
+        println!("{:>22} {:>12} {:>12}", "command", "asked", "hidden place");
+        for code in 0x01..=0x0b {
+            row(format!("{code:02x}"), self.commands[code], self.hidden[code]);
+        }
+        println!(
+            "other tables {}: longest {} bytes, {} deep, longest handler {}; filled rule memories {}",
+            self.other_tables,
+            self.longest_table,
+            self.deepest_table,
+            self.longest_handler,
+            self.filled_memories
+        );
+        print!("tables refused:");
+        for (fault, count) in TABLE_FAULTS.iter().zip(&self.table_faults) {
+            print!(" {fault:?} {count}");
+        }
+        print!("\njobs: pages {} of {} bytes, refused {}", self.pages, self.page_bytes, self.job_refusals);
+        for (fault, count) in JOB_FAULTS.iter().zip(&self.job_faults) {
+            print!(", {fault:?} {count}");
+        }
+        println!(", short buffers {}", self.short_buffers);
+    }
+}

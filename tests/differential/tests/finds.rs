@@ -1,0 +1,44 @@
+//! The tests tried: the model against itself differs nowhere, and every deliberate fault is found.
+
+use differential::backend::{Fault, Faulty, Itself, FAULTS};
+use differential::compare::compare_case;
+use differential::privacy::{privacy_case, Pairs};
+use differential::tally::Tally;
+
+const SEED: u64 = 7;
+
+#[test]
+fn the_model_agrees_with_itself() {
+    let mut tally = Tally::default();
+    for case in 0..3_000 {
+        compare_case(&Itself, SEED, case, &mut tally).unwrap();
+    }
+}
+
+#[test]
+fn the_model_keeps_secrets() {
+    let mut pairs = Pairs::default();
+    for case in 0..3_000 {
+        privacy_case(&Itself, SEED, case, &mut pairs).unwrap();
+    }
+    assert_eq!(pairs.missing(), Vec::<String>::new());
+}
+
+#[test]
+fn every_fault_is_found() {
+    for fault in FAULTS {
+        let mut tally = Tally::default();
+        let found = (0..3_000).find_map(|case| compare_case(&Faulty(fault), SEED, case, &mut tally).err());
+        println!("{fault:?}: {}", found.unwrap_or_else(|| panic!("{fault:?} is not found")));
+    }
+}
+
+#[test]
+fn every_leak_is_found() {
+    for fault in [Fault::OutputWithoutPlace, Fault::BranchWithoutPlace, Fault::StoreOnNewLabel] {
+        let mut pairs = Pairs::default();
+        let found = (0..30_000).find(|&case| privacy_case(&Faulty(fault), SEED, case, &mut pairs).is_err());
+        println!("{fault:?}: case {found:?}");
+        assert!(found.is_some(), "{fault:?}");
+    }
+}

@@ -1,0 +1,29 @@
+#!/usr/bin/env bash
+# The engines through the C interface: the wrapper's tests, the examples in Rust and C, the engines against the model, and the search for
+# two runs that break demand 3.
+#     bash tests/engines.sh [SEED [COUNT]]
+# LUVRODAN_ARCHIVE may name the static library; otherwise the crate `exports` is built.
+set -eu
+cd "$(dirname "$0")/.."
+seed=${1:-1}
+count=${2:-200000}
+. wrapper/archive.sh
+if [ -z "$LUVRODAN_ARCHIVE" ]; then
+    echo "no crate exports the engines: nothing to test"
+    exit 0
+fi
+
+cargo test --offline --release --quiet -p luvrodan
+
+out=$(mktemp -d)
+trap 'rm -rf "$out"' EXIT
+printf '12 00000001\n7 00000000\n' > "$out/page"
+cargo run --offline --release --quiet -p luvrodan --example embed > "$out/rust"
+cmp "$out/page" "$out/rust"
+cc -std=c99 -Wall -Wextra -Werror -I include examples/embed.c "$LUVRODAN_ARCHIVE" -lm -o "$out/embed"
+"$out/embed" > "$out/c"
+cmp "$out/page" "$out/c"
+
+cargo build --offline --release --quiet -p differential --features engine
+target/release/differential engines "$seed" "$count"
+target/release/differential privacy "$seed" "$count"

@@ -1,0 +1,218 @@
+//! The machine: its state, its step and its runs (document 01, "Atoms, cells, stack", "Commands", "Stops").
+
+use crate::rules::{Labels, Question};
+use crate::sheet::Command;
+use crate::{Atom, Label};
+
+/// The most entries of the stack.
+pub const STACK: usize = 256;
+
+#[derive(Clone, Copy, Debug, PartialEq, Eq)]
+pub enum Entry {
+    Value(Atom),
+    Frame(Atom),
+}
+
+#[derive(Clone, Copy, Debug, PartialEq, Eq, PartialOrd, Ord)]
+pub enum Stop {
+    End = 0,
+    AllowanceSpent = 1,
+    PlaceOutside = 2,
+    ValueMissing = 3,
+    FrameMissing = 4,
+    AddressOutside = 5,
+    NotAllowed = 6,
+    StackFull = 7,
+    OutputFull = 8,
+}
+
+/// The stack. Entries from `depth` on were dropped and keep their content.
+#[derive(Clone, Debug, Default)]
+pub struct Stack {
+    pub entries: Vec<Entry>,
+    pub depth: usize,
+}
+
+impl Stack {
+    fn push(&mut self, entry: Entry) {
+        if self.depth < self.entries.len() {
+            self.entries[self.depth] = entry;
+        } else {
+            self.entries.push(entry);
+        }
+        self.depth += 1;
+    }
+
+    fn pop(&mut self) -> Option<Entry> {
+        self.depth = self.depth.checked_sub(1)?;
+        Some(self.entries[self.depth])
+    }
+
+    /// The atom `below` entries under the top, where that is a value.
+    fn value(&self, below: usize) -> Result<Atom, Stop> {
+        let index = self.depth.checked_sub(1 + below);
+        match index.map(|index| self.entries[index]) {
+            Some(Entry::Value(atom)) => Ok(atom),
+            _ => Err(Stop::ValueMissing),
+        }
+    }
+
+    fn frame(&self) -> Result<Atom, Stop> {
+        let index = self.depth.checked_sub(1);
+        match index.map(|index| self.entries[index]) {
+            Some(Entry::Frame(atom)) => Ok(atom),
+            _ => Err(Stop::FrameMissing),
+        }
+    }
+
+    fn pop_atom(&mut self) -> Atom {
+        match self.pop() {
+            Some(Entry::Value(atom) | Entry::Frame(atom)) => atom,
+            None => panic!("the step tested that an entry is there"),
+        }
+    }
+}
+
+/// Who says what is allowed: the standard rules, a table, or a rule memory before a handler.
+pub trait Judge {
+    fn judge(&mut self, question: &Question) -> Option<Labels>;
+}
+
+/// A function of the question alone is a judge.
+impl<F: FnMut(&Question) -> Option<Labels>> Judge for F {
+    fn judge(&mut self, question: &Question) -> Option<Labels> {
+        self(question)
+    }
+}
+
+#[derive(Clone, Debug)]
+pub struct Machine {
+    pub place: i64,
+    pub place_label: Label,
+    pub stack: Stack,
+    pub cells: Vec<Atom>,
+    pub lines: Vec<Atom>,
+    /// How many lines the output space holds.
+    pub room: usize,
+}
+
+impl Machine {
+    pub fn new(cells: Vec<Atom>, room: usize) -> Machine {
+        Machine { place: 0, place_label: 0, stack: Stack::default(), cells, lines: Vec::new(), room }
+    }
+
+    fn cell(&self, address: i64) -> Result<usize, Stop> {
+        usize::try_from(address).ok().filter(|&index| index < self.cells.len()).ok_or(Stop::AddressOutside)
+    }
+
+    /// The atoms that the command works on, in the order of its inputs.
+    fn inputs(&self, command: Command) -> Result<Vec<Atom>, Stop> {
+        use Command::*;
+        Ok(match command {
+            Push(_) => vec![],
+            Pop | Output | Jump | Bnz(_) => vec![self.stack.value(0)?],
+            Add | Sub => vec![self.stack.value(0)?, self.stack.value(1)?],
+            Load => {
+                let address = self.stack.value(0)?;
+                vec![address, self.cells[self.cell(address.number)?]]
+            }
+            Store => {
+                let address = self.stack.value(0)?;
+                let number = self.stack.value(1)?;
+                vec![address, number, self.cells[self.cell(address.number)?]]
+            }
+            Call => {
+                let target = self.stack.value(0)?;
+                self.stack.value(1)?;
+                vec![target]
+            }
+            Ret => vec![self.stack.frame()?],
+        })
+    }
+
+    /// Carries out one command, or stops before it.
+    pub fn step(&mut self, command: Command, judge: &mut impl Judge) -> Result<(), Stop> {
+        use Command::*;
+        let atoms = self.inputs(command)?;
+        let mut inputs = [None; 3];
+        for (input, atom) in inputs.iter_mut().zip(&atoms) {
+            *input = Some(atom.label);
+        }
+        let question = Question { code: command.code(), place: self.place_label, inputs };
+        let labels = judge.judge(&question).ok_or(Stop::NotAllowed)?;
+        let result = |number| Atom { number, label: labels.result };
+        let mut next = self.place + 1;
+        match command {
+            Push(number) => {
+                if self.stack.depth == STACK {
+                    return Err(Stop::StackFull);
+                }
+                self.stack.push(Entry::Value(result(number)));
+            }
+            Output => {
+                if self.lines.len() >= self.room {
+                    return Err(Stop::OutputFull);
+                }
+                let line = result(self.stack.pop_atom().number);
+                self.lines.push(line);
+            }
+            Pop => {
+                self.stack.pop();
+            }
+            Add | Sub => {
+                let top = self.stack.pop_atom().number;
+                let under = self.stack.pop_atom().number;
+                let number = if command == Add { top.wrapping_add(under) } else { top.wrapping_sub(under) };
+                self.stack.push(Entry::Value(result(number)));
+            }
+            Load => {
+                self.stack.pop();
+                self.stack.push(Entry::Value(result(atoms[1].number)));
+            }
+            Store => {
+                self.stack.pop();
+                self.stack.pop();
+                let index = self.cell(atoms[0].number)?;
+                self.cells[index] = result(atoms[1].number);
+            }
+            Jump => next = self.stack.pop_atom().number,
+            Bnz(distance) => {
+                if self.stack.pop_atom().number != 0 {
+                    next = self.place + i64::from(distance);
+                }
+            }
+            Call => {
+                let target = self.stack.pop_atom();
+                let argument = self.stack.pop_atom();
+                self.stack.push(Entry::Frame(result(self.place + 1)));
+                self.stack.push(Entry::Value(argument));
+                next = target.number;
+            }
+            Ret => next = self.stack.pop_atom().number,
+        }
+        self.place = next;
+        self.place_label = labels.place;
+        Ok(())
+    }
+
+    /// Steps until a stop: which, and how many commands were carried out.
+    pub fn run(&mut self, commands: &[Command], allowance: u64, judge: &mut impl Judge) -> (Stop, u64) {
+        let mut steps = 0;
+        loop {
+            if self.place == commands.len() as i64 {
+                return (Stop::End, steps);
+            }
+            if steps == allowance {
+                return (Stop::AllowanceSpent, steps);
+            }
+            let command = usize::try_from(self.place).ok().and_then(|place| commands.get(place));
+            let Some(&command) = command else {
+                return (Stop::PlaceOutside, steps);
+            };
+            if let Err(stop) = self.step(command, judge) {
+                return (stop, steps);
+            }
+            steps += 1;
+        }
+    }
+}

@@ -1,0 +1,281 @@
+//! Document 01's readings, starred and unstarred, on both engines.
+
+use model::engine::{plain, tagged, Handler, Lent, Report};
+use model::machine::Stop;
+use model::page::page;
+use model::rules::{standard, Question, Table, STANDARD};
+use model::sample::Sample;
+use model::sheet::{decode, encode, Command, Command::*};
+use model::{flows, Atom, Refusal};
+
+const CELLS: [Atom; 2] = [Atom { number: 7, label: 0 }, Atom { number: 5, label: 1 }];
+
+/// A run on both engines, which must agree: the report, the lines and the rule memory.
+struct Run {
+    report: Report,
+    lines: Vec<(i64, i64)>,
+    lent: Lent,
+}
+
+fn run_with(sheet: &[Command], cells: &[Atom], fuel: u64, lines: usize) -> Result<Run, Refusal> {
+    let sheet = encode(sheet);
+    let mut by_plain = Lent::roomy(cells, lines);
+    let plain = plain(&sheet, &mut by_plain, fuel);
+    let sample = Sample::of(&Table::parse(&STANDARD).unwrap());
+    let mut lent = Lent::roomy(cells, lines);
+    let tagged = tagged(&sheet, &STANDARD, sample.handler(), &mut lent, fuel);
+    assert_eq!(tagged.wrong, None);
+    let report = match (plain, tagged.answer) {
+        (Ok(plain), Ok(tagged)) => {
+            assert_eq!(Report { faults: 0, kernel_steps: 0, ..tagged }, plain);
+            assert_eq!(
+                Lent { rule_memory: vec![0; 7], handler: vec![0; lent.handler.len()], ..lent.clone() },
+                by_plain
+            );
+            tagged
+        }
+        (plain, tagged) => {
+            assert_eq!(plain, tagged);
+            return Err(tagged.unwrap_err());
+        }
+    };
+    let written = lent.numbers.iter().copied().zip(lent.marks.iter().copied());
+    let lines = written.take(report.lines as usize).collect();
+    Ok(Run { report, lines, lent })
+}
+
+fn run(sheet: &[Command]) -> Run {
+    run_with(sheet, &CELLS, 1000, 100).unwrap()
+}
+
+fn stop_of(sheet: &[Command], fuel: u64) -> Stop {
+    run_with(sheet, &CELLS, fuel, 100).unwrap().report.stop
+}
+
+fn r1() -> Vec<Command> {
+    vec![Push(1), Load, Push(0), Load, Add, Output, Push(0), Load, Output]
+}
+
+/// R1's job for a reader.
+fn job(reader: u32, sheet: &[Command]) -> Vec<u8> {
+    let mut job = Vec::new();
+    for cell in CELLS {
+        job.push(0x40);
+        job.extend(cell.number.to_le_bytes());
+        job.extend(cell.label.to_le_bytes());
+    }
+    job.push(0x42);
+    job.extend(reader.to_le_bytes());
+    job.push(0x43);
+    job.extend(encode(sheet));
+    job
+}
+
+#[test]
+fn reading_1() {
+    let run = run(&r1());
+    assert_eq!(run.lines, [(12, 1), (7, 0)]);
+    assert_eq!((run.report.stop, run.report.steps), (Stop::End, 9));
+    assert_eq!(page(&job(1, &r1())), "12 00000001\n7 00000000\n");
+    assert_eq!(page(&job(0, &r1())), "7 00000000\n");
+}
+
+#[test]
+fn readings_2_and_3() {
+    let sheet = [Push(1), Load, Bnz(3), Push(0), Output, Push(9), Output];
+    let taken = run(&sheet);
+    assert_eq!((taken.lines, taken.report.steps), (vec![(9, 1)], 5));
+    let cells = [CELLS[0], Atom { number: 0, label: 1 }];
+    let fallen = run_with(&sheet, &cells, 1000, 100).unwrap();
+    assert_eq!((fallen.lines, fallen.report.steps), (vec![(0, 1), (9, 1)], 7));
+}
+
+#[test]
+fn reading_4() {
+    let run = run(&[Push(1), Load, Bnz(1), Push(7), Push(0), Store]);
+    assert_eq!((run.report.stop, run.report.steps), (Stop::NotAllowed, 5));
+    assert_eq!(run.lent.rule_memory, [7, 1, 0, 0, 0, -1, -1]);
+}
+
+#[test]
+fn reading_5() {
+    let run = run(&[Push(1), Load, Push(8), Call, Push(8), Output, Push(10), Jump, Bnz(1), Ret]);
+    assert_eq!((run.lines, run.report.stop, run.report.steps), (vec![(8, 0)], Stop::End, 10));
+}
+
+#[test]
+fn readings_6_to_10() {
+    let run = run(&[Push(i64::MAX), Push(1), Add, Output]);
+    assert_eq!(run.lines, [(i64::MIN, 0)]);
+    assert_eq!(stop_of(&[], 0), Stop::End);
+    assert_eq!(stop_of(&[Push(1)], 0), Stop::AllowanceSpent);
+    assert_eq!(stop_of(&[Ret], 10), Stop::FrameMissing);
+    assert_eq!(stop_of(&[Push(2), Load], 10), Stop::AddressOutside);
+}
+
+fn start_with_rule_memory(memory: [i64; 7]) -> Result<Report, Refusal> {
+    let sample = Sample::of(&Table::parse(&STANDARD).unwrap());
+    let mut lent = Lent::roomy(&CELLS, 10);
+    lent.rule_memory = memory.to_vec();
+    tagged(&[], &STANDARD, sample.handler(), &mut lent, 10).answer
+}
+
+#[test]
+fn readings_11_and_12() {
+    assert!(start_with_rule_memory([1, 0, 1, 1, -1, 0, 1]).is_ok());
+    assert_eq!(start_with_rule_memory([1, 0, 1, 1, -1, 0, 0]), Err(Refusal::new(7, 0)));
+    assert_eq!(start_with_rule_memory([7, 1, 0, 0, 0, -1, -1]), Err(Refusal::new(7, 0)));
+    assert_eq!(start_with_rule_memory([1, 0, 1, 1, 0, 0, 1]), Err(Refusal::new(7, 0)));
+}
+
+#[test]
+fn stack_limit() {
+    let at_limit = run(&[Push(1); 256]);
+    assert_eq!((at_limit.report.stop, at_limit.report.depth), (Stop::End, 256));
+    let beyond = run(&[Push(1); 257]);
+    assert_eq!((beyond.report.stop, beyond.report.steps), (Stop::StackFull, 256));
+}
+
+#[test]
+fn cell_limit() {
+    let cells = |count| vec![CELLS[0]; count];
+    assert!(run_with(&[], &cells(1024), 10, 10).is_ok());
+    assert_eq!(run_with(&[], &cells(1025), 10, 10).err(), Some(Refusal::new(4, 1024)));
+}
+
+#[test]
+fn tempting_mistakes() {
+    // Add does not reach past a frame.
+    assert_eq!(stop_of(&[Push(1), Push(3), Call, Add], 10), Stop::ValueMissing);
+    // Ret does not keep P: the line after a hidden call is public (reading 5), and one inside is not.
+    let inside = run(&[Push(1), Load, Push(4), Call, Bnz(1), Push(3), Output]);
+    assert_eq!(inside.lines, [(3, 1)]);
+    // Store is tested on the old label: a public cell is not raised under a hidden place, a hidden one may change.
+    let hidden = run(&[Push(1), Load, Bnz(1), Push(7), Push(1), Store]);
+    assert_eq!((hidden.report.stop, hidden.lent.values[1], hidden.lent.labels[1]), (Stop::End, 7, 1));
+    // Call needs a target and an argument.
+    assert_eq!(stop_of(&[Push(0), Call], 10), Stop::ValueMissing);
+}
+
+#[test]
+fn sheets_refused() {
+    let refused = |bytes: &[u8]| decode(bytes).unwrap_err();
+    assert_eq!(refused(&[3; 4097]), Refusal::new(1, 4096));
+    assert_eq!(refused(&[[3; 4096].as_slice(), &[0xff]].concat()), Refusal::new(1, 4096));
+    assert_eq!(refused(&[3, 0]), Refusal::new(2, 1));
+    assert_eq!(refused(&[3, 0x0c]), Refusal::new(2, 1));
+    assert_eq!(refused(&[3, 5, 1, 2, 3, 4, 5, 6, 7]), Refusal::new(3, 1));
+    assert_eq!(refused(&[9, 1]), Refusal::new(3, 0));
+    assert_eq!(decode(&[3; 4096]).unwrap().len(), 4096);
+    assert_eq!(decode(&[9, 0xfe, 0xff]).unwrap(), [Bnz(-2)]);
+}
+
+#[test]
+fn cells_refused() {
+    let run = |values: &[i64], labels: &[i64]| {
+        let mut lent = Lent::roomy(&[], 0);
+        lent.values = values.to_vec();
+        lent.labels = labels.to_vec();
+        plain(&[], &mut lent, 0).err()
+    };
+    assert_eq!(run(&[1, 2], &[0]), Some(Refusal::new(4, 1)));
+    assert_eq!(run(&[0; 2000], &[0; 1500]), Some(Refusal::new(4, 1500)));
+    assert_eq!(run(&[1, 2, 3], &[0, 1 << 32, -1]), Some(Refusal::new(5, 1)));
+    assert_eq!(run(&[1], &[u32::MAX.into()]), None);
+}
+
+#[test]
+fn tables_refused() {
+    let refused = |bytes: &[u8]| Table::parse(bytes).err().map(|refusal| refusal.place);
+    assert_eq!(refused(&STANDARD), None);
+    assert_eq!(refused(&STANDARD[..54]), Some(54));
+    assert_eq!(refused(&[]), Some(0));
+    assert_eq!(refused(&[&STANDARD[..], &[0x10]].concat()), Some(55));
+    assert_eq!(refused(&[0; 513]), Some(512));
+    assert_eq!(refused(&[0x10]), Some(0));
+    assert_eq!(refused(&[0x17, 0x17]), Some(1));
+    assert_eq!(refused(&[0x17, 0x14]), Some(1));
+    // Pop's result must be 10.
+    let mut table = STANDARD;
+    table[12] = 0x11;
+    assert_eq!(refused(&table), Some(12));
+    table[12] = 0x15;
+    assert_eq!(refused(&table), Some(12));
+    // Seven operators over a lone byte are eight deep, eight are nine deep.
+    let deep = |operators| [&vec![0x18; operators][..], &vec![0x17; operators + 1], &STANDARD[1..]].concat();
+    assert_eq!(refused(&deep(7)), None);
+    assert_eq!(refused(&deep(8)), Some(8));
+    assert_eq!(Table::parse(&STANDARD).unwrap().bytes(), STANDARD);
+}
+
+#[test]
+fn spaces_refused() {
+    let sample = Sample::of(&Table::parse(&STANDARD).unwrap());
+    let handler = sample.handler();
+    let run = |program: usize, stack: usize, words: usize, fuel: u64| {
+        let mut lent = Lent::roomy(&CELLS, 10);
+        lent.program.truncate(program);
+        lent.stack.truncate(stack);
+        lent.handler.truncate(words);
+        tagged(&[3, 3], &STANDARD, handler, &mut lent, fuel).answer.err()
+    };
+    let enough = 2 * handler.count;
+    assert_eq!(run(4, 768, enough, 1_000_000), None);
+    assert_eq!(run(3, 767, 0, 1_000_001), Some(Refusal::new(8, 1)));
+    assert_eq!(run(4, 767, 0, 1_000_001), Some(Refusal::new(8, 2)));
+    assert_eq!(run(4, 768, enough - 1, 1_000_001), Some(Refusal::new(8, 3)));
+    assert_eq!(run(4, 768, enough, 1_000_001), Some(Refusal::new(9, 0)));
+}
+
+#[test]
+fn place_and_output_stops() {
+    assert_eq!(stop_of(&[Push(-1), Jump], 10), Stop::PlaceOutside);
+    assert_eq!(stop_of(&[Push(3), Jump], 10), Stop::PlaceOutside);
+    assert_eq!(stop_of(&[Push(2), Jump], 2), Stop::End);
+    assert_eq!(stop_of(&[Push(3), Jump], 2), Stop::AllowanceSpent);
+    let full = run_with(&[Push(1), Output, Push(2), Output], &CELLS, 10, 1).unwrap();
+    assert_eq!((full.report.stop, full.report.steps, full.lines), (Stop::OutputFull, 3, vec![(1, 0)]));
+}
+
+#[test]
+fn jobs() {
+    assert_eq!(page(&[]), "job 0\n");
+    assert_eq!(page(&[0x41, 1, 0, 0, 0]), "job 5\n");
+    assert_eq!(page(&[0x41, 1, 0, 0]), "job 0\n");
+    assert_eq!(page(&[0x41, 1, 0, 0, 0, 0x44]), "job 5\n");
+    assert_eq!(page(&vec![0x43; 65_537]), "job 65536\n");
+    assert_eq!(page(&[0x43, 0]), "refused 2 0\n");
+    assert_eq!(page(&[0x41, 0x41, 0x42, 0x0f, 0, 0x43]), "refused 9 0\n");
+    assert_eq!(page(&[0x41, 0x40, 0x42, 0x0f, 0, 0x43]), "");
+    let cell = [0x40, 0, 0, 0, 0, 0, 0, 0, 0, 0, 0, 0, 0];
+    assert_eq!(page(&[&cell.repeat(1024)[..], &[0x43]].concat()), "");
+    assert_eq!(page(&[&cell.repeat(1025)[..], &[0x43]].concat()), "job 13312\n");
+    // The last 41 and 42 hold.
+    let mut twice = vec![0x42, 1, 0, 0, 0];
+    twice.extend(job(0, &r1()));
+    assert_eq!(page(&twice), "7 00000000\n");
+}
+
+#[test]
+fn the_standard_table_is_the_standard_rules() {
+    let table = Table::parse(&STANDARD).unwrap();
+    for code in 0x01..=0x0b {
+        let inputs = model::sheet::inputs_of(code);
+        for bits in 0..256u32 {
+            let part = |index: u32| bits >> (2 * index) & 3;
+            let mut question = Question { code, place: part(0), inputs: [None; 3] };
+            for index in 0..inputs {
+                question.inputs[index] = Some(part(1 + index as u32));
+            }
+            assert_eq!(table.answer(&question), standard(&question), "{question:?}");
+        }
+    }
+}
+
+#[test]
+fn a_wrong_handler_is_found() {
+    let handler = Handler { count: 1, words: &[0x0b, 0] };
+    let wrong = tagged(&encode(&r1()), &STANDARD, handler, &mut Lent::roomy(&CELLS, 9), 100).wrong;
+    assert!(wrong.is_some());
+    assert!(flows(0b101, 0b111) && !flows(0b1000, 0b111));
+}

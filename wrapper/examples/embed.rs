@@ -1,0 +1,41 @@
+//! Prints the page of document 01's first reading, for a reader who is cleared for owner 0.
+
+use luvrodan::{page, Atom, Machine, Refusal};
+use std::io::Write;
+
+/// Push 1, Load, Push 0, Load, Add, Output, Push 0, Load, Output.
+const SHEET: [u8; 33] =
+    [5, 1, 0, 0, 0, 0, 0, 0, 0, 6, 5, 0, 0, 0, 0, 0, 0, 0, 0, 6, 1, 4, 5, 0, 0, 0, 0, 0, 0, 0, 0, 6, 4];
+const CELLS: [Atom; 2] = [Atom { number: 7, label: 0 }, Atom { number: 5, label: 1 }];
+const READER: u32 = 1;
+
+/// The job: cells, the reader's set, the sheet.
+fn job() -> Vec<u8> {
+    let mut job = Vec::new();
+    for cell in CELLS {
+        job.push(0x40);
+        job.extend(cell.number.to_le_bytes());
+        job.extend(cell.label.to_le_bytes());
+    }
+    job.push(0x42);
+    job.extend(READER.to_le_bytes());
+    job.push(0x43);
+    job.extend(SHEET);
+    job
+}
+
+fn main() -> Result<(), Refusal> {
+    // In one call, as the program `page` does it.
+    let page = page(&job());
+    std::io::stdout().write_all(&page).expect("standard output takes the page");
+    // The same lines from a run on the plain engine.
+    let mut machine = Machine::new(&CELLS, 100);
+    let report = machine.run_plain(&SHEET, 1000)?;
+    let mut lines = String::new();
+    for line in machine.view(READER) {
+        lines += &format!("{} {:08x}\n", line.number, line.label);
+    }
+    assert_eq!(lines.as_bytes(), page);
+    eprintln!("{} after {} steps", report.stop, report.steps);
+    Ok(())
+}

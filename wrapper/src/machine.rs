@@ -1,0 +1,133 @@
+//! A machine that owns its memory.
+
+use crate::{handler_count, plain, tagged, Lent, Refusal, Report, Tags, RULE_MEMORY_WORDS};
+
+/// A number with a label, the set of owners 0 to 31 by bits.
+#[derive(Clone, Copy, Debug, PartialEq, Eq)]
+pub struct Atom {
+    pub number: i64,
+    pub label: u32,
+}
+
+/// A stack entry: a value, or the frame that a Call left.
+#[derive(Clone, Copy, Debug, PartialEq, Eq)]
+pub enum Entry {
+    Value(Atom),
+    Frame(Atom),
+}
+
+/// Cells, working space, output space and rule memory. A run starts at place 0 with an empty stack and no lines, from
+/// the cells and the rule memory that the run before left.
+#[derive(Clone, Debug)]
+pub struct Machine {
+    values: Vec<i64>,
+    labels: Vec<i64>,
+    program: Vec<i64>,
+    stack: Vec<i64>,
+    handler: Vec<i64>,
+    numbers: Vec<i64>,
+    marks: Vec<i64>,
+    rule_memory: [i64; RULE_MEMORY_WORDS],
+    depth: usize,
+    lines: usize,
+}
+
+impl Machine {
+    /// A machine with these cells and room for so many lines.
+    pub fn new(cells: &[Atom], lines: usize) -> Machine {
+        Machine {
+            values: cells.iter().map(|cell| cell.number).collect(),
+            labels: cells.iter().map(|cell| cell.label.into()).collect(),
+            program: Vec::new(),
+            stack: vec![0; 768],
+            handler: Vec::new(),
+            numbers: vec![0; lines],
+            marks: vec![0; lines],
+            rule_memory: [0; RULE_MEMORY_WORDS],
+            depth: 0,
+            lines: 0,
+        }
+    }
+
+    /// Runs a sheet under the standard rules.
+    pub fn run_plain(&mut self, sheet: &[u8], fuel: u64) -> Result<Report, Refusal> {
+        self.make_room(sheet, 0);
+        let (lent, _, _) = self.lent();
+        let report = plain(sheet, lent, fuel)?;
+        Ok(self.note(report))
+    }
+
+    /// Runs a sheet on the tag engine, under the rules of a table.
+    pub fn run_tagged(&mut self, sheet: &[u8], table: &[u8], fuel: u64) -> Result<Report, Refusal> {
+        self.make_room(sheet, 2 * handler_count(table).unwrap_or(0));
+        let (lent, rule_memory, handler) = self.lent();
+        let report = tagged(sheet, lent, Tags { table, rule_memory, handler }, fuel)?;
+        Ok(self.note(report))
+    }
+
+    /// A sheet has at most a command for each byte.
+    fn make_room(&mut self, sheet: &[u8], handler: usize) {
+        let program = 2 * sheet.len().min(4096);
+        if self.program.len() < program {
+            self.program.resize(program, 0);
+        }
+        if self.handler.len() < handler {
+            self.handler.resize(handler, 0);
+        }
+    }
+
+    fn lent(&mut self) -> (Lent<'_>, &mut [i64], &mut [i64]) {
+        let lent = Lent {
+            values: &mut self.values,
+            labels: &mut self.labels,
+            program: &mut self.program,
+            stack: &mut self.stack,
+            numbers: &mut self.numbers,
+            marks: &mut self.marks,
+        };
+        (lent, &mut self.rule_memory, &mut self.handler)
+    }
+
+    fn note(&mut self, report: Report) -> Report {
+        self.depth = report.depth;
+        self.lines = report.lines;
+        report
+    }
+
+    pub fn cells(&self) -> impl Iterator<Item = Atom> + '_ {
+        atoms(&self.values, &self.labels)
+    }
+
+    /// The lines of the last accepted run.
+    pub fn lines(&self) -> impl Iterator<Item = Atom> + '_ {
+        atoms(&self.numbers[..self.lines], &self.marks)
+    }
+
+    /// The lines of the last accepted run that a reader who is cleared for this set of owners may see.
+    pub fn view(&self, set: u32) -> impl Iterator<Item = Atom> + '_ {
+        self.lines().filter(move |line| line.label & !set == 0)
+    }
+
+    /// The stack of the last accepted run, bottom first.
+    pub fn stack(&self) -> impl Iterator<Item = Entry> + '_ {
+        self.stack.chunks_exact(3).take(self.depth).map(|words| {
+            let atom = Atom { number: words[1], label: words[2] as u32 };
+            match words[0] {
+                0 => Entry::Value(atom),
+                _ => Entry::Frame(atom),
+            }
+        })
+    }
+
+    pub fn rule_memory(&self) -> [i64; RULE_MEMORY_WORDS] {
+        self.rule_memory
+    }
+
+    pub fn set_rule_memory(&mut self, words: [i64; RULE_MEMORY_WORDS]) {
+        self.rule_memory = words;
+    }
+}
+
+fn atoms<'a>(numbers: &'a [i64], labels: &'a [i64]) -> impl Iterator<Item = Atom> + 'a {
+    numbers.iter().zip(labels).map(|(&number, &label)| Atom { number, label: label as u32 })
+}

@@ -1,0 +1,74 @@
+//! `include/luvrodan.h` as Rust declarations. The rest of the crate is over these and is safe.
+
+/// Bytes of the longest page.
+pub const PAGE_LIMIT: usize = 30_720;
+
+#[repr(C)]
+#[derive(Clone, Copy, Debug, PartialEq, Eq)]
+pub struct RawResult {
+    pub refusal: u64,
+    pub position: u64,
+    pub stop: u64,
+    pub steps: u64,
+    pub pc: i64,
+    pub pc_label: u64,
+    pub depth: u64,
+    pub lines: u64,
+    pub faults: u64,
+    pub kernel_steps: u64,
+}
+
+#[repr(C)]
+#[derive(Clone, Copy, Debug, PartialEq, Eq)]
+pub struct RawPage {
+    pub status: u64,
+    pub length: u64,
+}
+
+extern "C" {
+    pub fn luvrodan_plain(
+        sheet: *const u8,
+        sheet_length: usize,
+        values: *mut i64,
+        value_count: usize,
+        labels: *mut i64,
+        label_count: usize,
+        program: *mut i64,
+        program_words: usize,
+        stack: *mut i64,
+        stack_words: usize,
+        numbers: *mut i64,
+        number_count: usize,
+        marks: *mut i64,
+        mark_count: usize,
+        fuel: u64,
+    ) -> RawResult;
+
+    pub fn luvrodan_tagged(
+        sheet: *const u8,
+        sheet_length: usize,
+        values: *mut i64,
+        value_count: usize,
+        labels: *mut i64,
+        label_count: usize,
+        table: *const u8,
+        table_length: usize,
+        rule_memory: *mut i64,
+        rule_memory_words: usize,
+        program: *mut i64,
+        program_words: usize,
+        stack: *mut i64,
+        stack_words: usize,
+        handler: *mut i64,
+        handler_words: usize,
+        numbers: *mut i64,
+        number_count: usize,
+        marks: *mut i64,
+        mark_count: usize,
+        fuel: u64,
+    ) -> RawResult;
+
+    pub fn luvrodan_handler_count(table: *const u8, table_length: usize) -> u64;
+
+    pub fn luvrodan_page(job: *const u8, job_length: usize, page: *mut u8, page_length: usize) -> RawPage;
+}

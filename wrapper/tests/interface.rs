@@ -1,0 +1,112 @@
+//! The wrapper's own part: names of refusals and stops, owned memory, pages.
+
+use luvrodan::{
+    handler_count, page, page_into, plain, tagged, Atom, Entry, Lent, Machine, Refusal, ShortBuffer, Space,
+    Stop, Tags, PAGE_LIMIT, STANDARD_TABLE,
+};
+
+const CELLS: [Atom; 2] = [Atom { number: 7, label: 0 }, Atom { number: 5, label: 1 }];
+
+fn push(number: i64) -> Vec<u8> {
+    [&[5][..], &number.to_le_bytes()].concat()
+}
+
+/// A sheet of byte strings.
+fn sheet(parts: &[&[u8]]) -> Vec<u8> {
+    parts.concat()
+}
+
+#[test]
+fn lines_and_cells() {
+    let sheet = sheet(&[&push(1), &[6], &push(0), &[6, 1, 4], &push(0), &[6, 4]]);
+    let mut machine = Machine::new(&CELLS, 10);
+    for engine in ["plain", "tagged"] {
+        let report = match engine {
+            "plain" => machine.run_plain(&sheet, 100),
+            _ => machine.run_tagged(&sheet, &STANDARD_TABLE, 100),
+        }
+        .unwrap();
+        assert_eq!((report.stop, report.steps, report.lines, report.depth), (Stop::End, 9, 2, 0));
+        let lines: Vec<_> = machine.lines().collect();
+        assert_eq!(lines, [Atom { number: 12, label: 1 }, Atom { number: 7, label: 0 }]);
+        assert_eq!(machine.view(0).count(), 1);
+        assert_eq!(machine.cells().collect::<Vec<_>>(), CELLS);
+    }
+    assert_eq!(machine.rule_memory(), [4, 0, 0, -1, -1, 0, 0]);
+}
+
+#[test]
+fn stack_and_stops() {
+    let mut machine = Machine::new(&CELLS, 0);
+    let call = sheet(&[&push(3), &push(4), &[10], &[3], &[1]]);
+    let report = machine.run_plain(&call, 100).unwrap();
+    assert_eq!((report.stop, report.place, report.depth), (Stop::ValueMissing, 4, 2));
+    let stack: Vec<_> = machine.stack().collect();
+    let atom = |number| Atom { number, label: 0 };
+    assert_eq!(stack, [Entry::Frame(atom(3)), Entry::Value(atom(3))]);
+    let mut stop = |sheet: &[u8], fuel| machine.run_plain(sheet, fuel).unwrap().stop;
+    assert_eq!(stop(&[], 0), Stop::End);
+    assert_eq!(stop(&push(1), 0), Stop::AllowanceSpent);
+    assert_eq!(stop(&[11], 1), Stop::FrameMissing);
+    assert_eq!(stop(&[&push(2)[..], &[6]].concat(), 9), Stop::AddressOutside);
+    assert_eq!(stop(&[&push(-1)[..], &[8]].concat(), 9), Stop::PlaceOutside);
+    assert_eq!(stop(&[&push(-1)[..], &[4]].concat(), 9), Stop::OutputFull);
+    assert_eq!(stop(&push(1).repeat(257), 999), Stop::StackFull);
+    let hidden = sheet(&[&push(1), &[6, 9, 1, 0], &push(7), &push(0), &[7]]);
+    assert_eq!(stop(&hidden, 999), Stop::NotAllowed);
+}
+
+#[test]
+fn refusals() {
+    let mut machine = Machine::new(&CELLS, 0);
+    let mut refused = |sheet: &[u8], fuel| machine.run_plain(sheet, fuel).unwrap_err();
+    assert_eq!(refused(&[3; 4097], 0), Refusal::TooManyCommands { offset: 4096 });
+    assert_eq!(refused(&[3, 0], 0), Refusal::UnknownCode { offset: 1 });
+    assert_eq!(refused(&[3, 9, 0], 0), Refusal::CutOperand { offset: 1 });
+    assert_eq!(refused(&[], 1_000_001), Refusal::Allowance);
+    assert_eq!(machine.run_tagged(&[], &[0x17], 0), Err(Refusal::RuleTable { offset: 1 }));
+    machine.set_rule_memory([1, 0, 1, 1, -1, 0, 0]);
+    assert_eq!(machine.run_tagged(&[], &STANDARD_TABLE, 0), Err(Refusal::RuleMemory));
+    machine.set_rule_memory([1, 0, 1, 1, -1, 0, 1]);
+    assert!(machine.run_tagged(&[], &STANDARD_TABLE, 0).is_ok());
+    let many = vec![CELLS[0]; 1025];
+    assert_eq!(Machine::new(&many, 0).run_plain(&[], 0), Err(Refusal::CellCount { place: 1024 }));
+    let refusal = Refusal::ShortSpace(Space::Handler);
+    assert_eq!((refusal.number(), refusal.place(), refusal.to_string()), (8, 3, "refused 8 3".into()));
+}
+
+/// Runs on lent memory with these lengths of program, stack and handler.
+fn lend(lengths: [usize; 3], label: i64) -> [Result<Stop, Refusal>; 2] {
+    let [mut program, mut stack, mut handler] = lengths.map(|length| vec![9; length]);
+    let (values, labels, rule_memory) = (&mut [1], &mut [label], &mut [0; 7]);
+    let by_plain = plain(
+        &[3],
+        Lent { values, labels, program: &mut program, stack: &mut stack, numbers: &mut [], marks: &mut [] },
+        9,
+    );
+    let lent =
+        Lent { values, labels, program: &mut program, stack: &mut stack, numbers: &mut [], marks: &mut [] };
+    let tags = Tags { table: &STANDARD_TABLE, rule_memory, handler: &mut handler };
+    [by_plain, tagged(&[3], lent, tags, 9)].map(|answer| answer.map(|report| report.stop))
+}
+
+#[test]
+fn lent_memory() {
+    let handler = 2 * handler_count(&STANDARD_TABLE).unwrap();
+    assert_eq!(handler_count(&[]), None);
+    assert_eq!(lend([2, 768, handler], 0), [Ok(Stop::ValueMissing); 2]);
+    assert_eq!(lend([1, 768, handler], 0), [Err(Refusal::ShortSpace(Space::Program)); 2]);
+    assert_eq!(lend([2, 767, handler], 0), [Err(Refusal::ShortSpace(Space::Stack)); 2]);
+    assert_eq!(lend([2, 768, handler - 1], 0)[1], Err(Refusal::ShortSpace(Space::Handler)));
+    assert_eq!(lend([2, 768, handler], -1), [Err(Refusal::LabelOutside { cell: 0 }); 2]);
+}
+
+#[test]
+fn pages() {
+    assert_eq!(page(&[]), b"job 0\n");
+    assert_eq!(page(&[0x43, 0]), b"refused 2 0\n");
+    assert_eq!(page(&[&[0x43][..], &push(-5), &[4]].concat()), b"-5 00000000\n");
+    let mut buffer = vec![1; PAGE_LIMIT - 1];
+    assert_eq!(page_into(&[], &mut buffer), Err(ShortBuffer));
+    assert!(buffer.iter().all(|&byte| byte == 1));
+}
