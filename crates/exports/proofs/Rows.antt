@@ -14,7 +14,7 @@ use Rattle.policy.specs.Read.{ReadTable, refused, table}
 use Rattle.policy.specs.Row.{word, acceptedRow, rowAnswer}
 use Rattle.translator.specs.Emit.{putAll}
 use Rattle.translator.proofs.Putting.{Storing, storing-next, storing-end}
-use Rattle.tagged.proofs.Rules.{words-all}
+use Rattle.tagging.proofs.Rules.{words-all}
 use Rattle.tagged.proofs.Seven.{seven-written}
 use Rattle.exports.specs.Row.{noRow, givenRow, leftRow}
 

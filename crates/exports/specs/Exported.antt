@@ -7,7 +7,9 @@ use Rattle.plain.specs.Plain as Plain
 use Rattle.tagged.specs.Tagged.{tagged}
 use Rattle.tagged.specs.Tagged as Tagged
 use Rattle.exports.specs.declared.result.LuvrodanResult.{LuvrodanResult}
-use Rattle.exports.specs.Result.{plainResult, taggedResult}
+use Rattle.report.specs.Page.{pageAnswer, pageOut}
+use Rattle.exports.specs.declared.result.LuvrodanPageResult.{LuvrodanPageResult}
+use Rattle.exports.specs.Result.{plainResult, taggedResult, pageResult}
 use Rattle.exports.specs.Row.{givenRow, leftRow}
 
 -- the result and the lent runs
@@ -37,3 +39,15 @@ unfoldable pub exportedTagged : List ℕ → List ℕ → List ℤ → Memory �
 exportedTagged sheet bytes lent m handler fuel =
     let e : Tagged.Ended = tagged sheet bytes (givenRow lent) m handler fuel in
     taggedLeft (taggedResult (e .answer)) (leftRow (e .row) lent) (e .memory) (e .handler)
+
+-- the result and the lent bytes
+pub record PageLeft : Type 0 where
+  pub result : LuvrodanPageResult
+  pub page : List ℕ
+
+abbrev pub pageLeft : LuvrodanPageResult → List ℕ → PageLeft
+pageLeft r page = record { result = r; page = page }
+
+-- of the job and the lent bytes
+unfoldable pub exportedPage : List ℕ → List ℕ → PageLeft
+exportedPage job page = pageLeft (pageResult (pageAnswer job page)) (pageOut job page)

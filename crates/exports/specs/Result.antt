@@ -7,7 +7,11 @@ use Rattle.plain.specs.declared.Answer.{Answer as PlainAnswer}
 use Rattle.plain.specs.declared.Answer.the-variants as Plain
 use Rattle.tagged.specs.declared.Answer.{Answer as TaggedAnswer}
 use Rattle.tagged.specs.declared.Answer.the-variants as Tagged
+use Rattle.report.specs.declared.Outcome.{Outcome}
+use Rattle.report.specs.declared.Outcome.the-variants as Made
+use Rattle.report.specs.Page.{pageLimit}
 use Rattle.exports.specs.declared.result.LuvrodanResult.{LuvrodanResult}
+use Rattle.exports.specs.declared.result.LuvrodanPageResult.{LuvrodanPageResult}
 
 -- refused: the refusal's number and place, and zeros
 abbrev pub refusedResult : Refusal → LuvrodanResult
@@ -49,3 +53,8 @@ plainResult (Plain.Stopped x) = stoppedResult (x .machine) (x .stop) (x .steps) 
 abbrev pub taggedResult : TaggedAnswer → LuvrodanResult
 taggedResult (Tagged.Refused r) = refusedResult r
 taggedResult (Tagged.Stopped x) = stoppedResult (x .machine) (x .stop) (x .steps) (x .faults) (x .kernel)
+
+-- a page and its length; or a buffer that is too short, and how long it has to be
+abbrev pub pageResult : Outcome → LuvrodanPageResult
+pageResult (Made.Written n) = record { status = 0; length = n }
+pageResult Made.Short = record { status = 1; length = pageLimit }

@@ -2,12 +2,13 @@
 mod result;
 mod row;
 
+use result::LuvrodanPageResult;
 use result::LuvrodanResult;
 ghost use mathlib.Core.Path.{_≡_};
 ghost use Rattle.policy.specs.Read.{readTable};
 ghost use Rattle.translator.specs.Translated.{handlerCount};
 ghost use Rattle.plain.specs.Plain.{memory};
-ghost use Rattle.exports.specs.Exported.{plainLeft, exportedPlain, taggedLeft, exportedTagged};
+ghost use Rattle.exports.specs.Exported.{plainLeft, exportedPlain, taggedLeft, exportedTagged, pageLeft, exportedPage};
 
 // A run under the standard rules.
 #[no_mangle]
@@ -78,4 +79,13 @@ pub extern "C" fn luvrodan_handler_count(table: &[u8]) -> u64
     ensures { λ r. ⌜ r ≡ handlerCount (readTable (now (table .entry))) ⌝ }
 {
     translator::count(table) as u64
+}
+
+// The page of a job: what the program `page` prints for these bytes.
+#[no_mangle]
+pub extern "C" fn luvrodan_page(job: &[u8], page: &mut [u8]) -> LuvrodanPageResult
+    ensures { λ r. ⌜ pageLeft r (now (page .exit)) ≡ exportedPage (now (job .entry)) (now (page .entry)) ⌝ }
+{
+    let made = report::page(job, page);
+    result::of_page(made)
 }

@@ -1,8 +1,9 @@
-// The engines' answers as ten words.
+// The engines' answers as ten words, and the page's as two.
 use program::Refusal;
+use report::Outcome;
 use step::Machine;
 ghost use mathlib.Core.Path.{_≡_};
-ghost use Rattle.exports.specs.Result.{refusedResult, stoppedResult, plainResult, taggedResult};
+ghost use Rattle.exports.specs.Result.{refusedResult, stoppedResult, plainResult, taggedResult, pageResult};
 
 // What a run came to: `luvrodan_result` of include/luvrodan.h, field by field in its order.
 #[repr(C)]
@@ -17,6 +18,13 @@ pub struct LuvrodanResult {
     pub lines: u64,
     pub faults: u64,
     pub kernel: u64,
+}
+
+// What a page came to: `luvrodan_page_result`.
+#[repr(C)]
+pub struct LuvrodanPageResult {
+    pub status: u64,
+    pub length: u64,
 }
 
 fn refused(r: Refusal) -> LuvrodanResult
@@ -70,5 +78,20 @@ pub(crate) fn of_tagged(answer: tagged::Answer) -> LuvrodanResult
         tagged::Answer::Stopped(ran) => {
             stopped(ran.machine, ran.stop, ran.steps, ran.faults, ran.kernel)
         }
+    }
+}
+
+pub(crate) fn of_page(made: Outcome) -> LuvrodanPageResult
+    ensures { λ x. ⌜ x ≡ pageResult made ⌝ }
+{
+    match made {
+        Outcome::Written(length) => LuvrodanPageResult {
+            status: 0,
+            length: length as u64,
+        },
+        Outcome::Short => LuvrodanPageResult {
+            status: 1,
+            length: 30720,
+        },
     }
 }
