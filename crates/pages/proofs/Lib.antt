@@ -1,3 +1,4 @@
 pub mod Starts
 pub mod Private
+pub mod Refused
 pub mod Readings

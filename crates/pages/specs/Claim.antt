@@ -7,6 +7,8 @@ use lib.ListN.{length, take, drop}
 use Rattle.machine.specs.Atom.{Atom}
 use Rattle.machine.specs.Claim.{Alike}
 use Rattle.step.specs.Layout.{cellsOf}
+use Rattle.plain.specs.declared.start.Limit.the-variants.{Kept}
+use Rattle.plain.specs.Start.{labelsLimit}
 use Rattle.plain.specs.Plain.{Memory, memory}
 use Rattle.policy.specs.Standard.{standardBytes}
 use Rattle.tagged.specs.declared.Answer.{Answer}
@@ -96,3 +98,18 @@ Says page ran = Unit
 
 abbrev pub Unrun : Type 0
 Unrun = (job : List ℕ) → Says (pageOf job) (fateOf job)
+
+-- a job that is not bad: its sheet starts somewhere
+abbrev pub Read : List ℕ → Type 0
+Read job = (start : ℕ) × (readJob job .ending ≡ sheet start)
+
+-- its label words are in range, as fields of four bytes are
+abbrev pub Labelled : List ℕ → Type 0
+Labelled job = labelsLimit 0 (readJob job .heard .labels) ≡ Kept
+
+-- whether such a job is run or how it is refused depends on its sheet and its allowance only: of its cells it tells nothing
+abbrev pub Refusals : Type 0
+Refusals =
+    (job₁ job₂ : List ℕ) → Read job₁ → Read job₂ → Labelled job₁ → Labelled job₂ →
+    sheetOf job₁ ≡ sheetOf job₂ → allowanceOf job₁ ≡ allowanceOf job₂ →
+    fateOf job₁ ≡ fateOf job₂

@@ -1,0 +1,83 @@
+-- Refusals of jobs (specs/Claim.antt): a job has at most 1,024 cells, each with a label word, so its start is refused or accepted as one
+-- without cells is.
+-- Assumes nothing.
+use mathlib.Core.Path.{_≡_, refl, sym, ap, ap₂, _∙_}
+use mathlib.Core.List.{List, []}
+use Prim.Native.Nat.{ℕ, _≤_}
+use lib.ListN.{length, drop}
+use borrow.Author.Tests.{le-leb, eq-eqb}
+use Rattle.program.specs.Decode.{Decoded, decode}
+use Rattle.program.specs.Decode as Decode
+use Rattle.policy.specs.Read.{ReadTable, readTable}
+use Rattle.policy.specs.Standard.{standardBytes}
+use Rattle.plain.specs.declared.start.Limit.the-variants.{Kept}
+use Rattle.plain.specs.Start.{cellsLimit, labelsLimit}
+use Rattle.plain.proofs.Accepted.{never}
+use Rattle.tagged.specs.Start.{Started, refused, accepted, startLimits, startDecoded, startOf}
+use Rattle.tagged.specs.Tagged.{outcomeOf, tagged}
+use Rattle.report.specs.Job.{Heard, Ending, bad, sheet, readJob}
+use Rattle.report.specs.Page.{zeros}
+use Rattle.report.proofs.Paging.{Few, few}
+use Rattle.pages.specs.Claim.{sheetFrom, sheetOf, allowanceOf, Fate, answered, lent, endOf, fateFrom, fateOf, Read, Labelled, Refusals}
+use Rattle.pages.specs.Claim as Pages
+
+cells-kept : (n k : ℕ) → n ≡ k → n ≤ 1024 → cellsLimit n k ≡ Kept
+unfolding cellsLimit
+cells-kept n k e h = rw (eq-eqb n k e, le-leb n 1024 h)
+
+no-cells : cellsLimit 0 0 ≡ Kept
+unfolding cellsLimit
+no-cells = refl
+
+no-labels : labelsLimit 0 [] ≡ Kept
+unfolding labelsLimit
+no-labels = refl
+
+abbrev startFate : Started → Fate
+startFate (refused r) = Pages.refused (r .code) (r .position)
+startFate (accepted cs t) = Pages.ran
+
+-- the fate of a sheet with an allowance
+abbrev sheetFate : List ℕ → ℕ → Fate
+sheetFate bytes fuel = startFate (startOf bytes standardBytes (zeros 7) 0 [] (length (zeros 8192)) (length (zeros 768)) (length (zeros 302)) fuel)
+
+module _ (h : Heard) (few : Few h) (labels : labelsLimit 0 (h .labels) ≡ Kept) (bytes : List ℕ) where
+  abbrev started : Started
+  started =
+      startOf bytes standardBytes (zeros 7) (length (h .values)) (h .labels) (length (zeros 8192)) (length (zeros 768)) (length (zeros 302))
+      (h .allowance)
+
+  start-same : started ≡ startOf bytes standardBytes (zeros 7) 0 [] (length (zeros 8192)) (length (zeros 768)) (length (zeros 302)) (h .allowance)
+  unfolding startOf startLimits
+  start-same = go (decode bytes) (length (zeros 8192)) (length (zeros 768)) (length (zeros 302)) (readTable standardBytes)
+    where
+      go : (d : Decoded) (program stack handler : ℕ) (rules : ReadTable)
+          → startDecoded rules (zeros 7) (length (h .values)) (h .labels) program stack handler (h .allowance) d
+          ≡ startDecoded rules (zeros 7) 0 [] program stack handler (h .allowance) d
+      go (Decode.refused r) program stack handler rules = refl
+      go (Decode.accepted cs) program stack handler rules =
+          rw (cells-kept (length (h .values)) (length (h .labels)) (sym (few .labels)) (few .values), labels, no-cells, no-labels)
+
+  start-answered : answered (endOf h bytes .answer) ≡ startFate started
+  unfolding tagged
+  start-answered = go started
+    where
+      go : (d : Started) → answered (outcomeOf d (zeros 7) (lent h) (zeros 302) (h .allowance) .answer) ≡ startFate d
+      go (refused r) = refl
+      go (accepted cs t) = refl
+
+fate-sheet : (job : List ℕ) → Read job → Labelled job → fateOf job ≡ sheetFate (sheetOf job) (allowanceOf job)
+unfolding fateOf
+fate-sheet job read labels = go (readJob job .ending) (read .1)
+  where
+    go : (x : Ending) → x ≡ sheet (read .0) → fateFrom job (readJob job .heard) x ≡ sheetFate (sheetFrom job x) (allowanceOf job)
+    go (bad offset) e = never (cc)
+    go (sheet start) e =
+        start-answered (readJob job .heard) (few job) labels (drop start job)
+        ∙ ap startFate (start-same (readJob job .heard) (few job) labels (drop start job))
+
+pub pages-refusals : Refusals
+pages-refusals job₁ job₂ read₁ read₂ labels₁ labels₂ sheets allowances =
+    fate-sheet job₁ read₁ labels₁
+    ∙ ap₂ (λ (s : List ℕ) (n : ℕ). sheetFate s n) sheets allowances
+    ∙ sym (fate-sheet job₂ read₂ labels₂)
