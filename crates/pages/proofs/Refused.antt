@@ -1,5 +1,5 @@
--- Refusals of jobs (specs/Claim.antt): a job has at most 1,024 cells, each with a label word, so its start is refused or accepted as one
--- without cells is.
+-- Refusals of jobs (specs/Claim.antt): a job has at most 1,024 cells, each with a label in range, so its start is refused or accepted as
+-- one without cells is.
 -- Assumes nothing.
 use mathlib.Core.Path.{_≡_, refl, sym, ap, ap₂, _∙_}
 use mathlib.Core.List.{List, []}
@@ -18,8 +18,9 @@ use Rattle.tagged.specs.Tagged.{outcomeOf, tagged}
 use Rattle.report.specs.Job.{Heard, Ending, bad, sheet, readJob}
 use Rattle.report.specs.Page.{zeros}
 use Rattle.report.proofs.Paging.{Few, few}
-use Rattle.pages.specs.Claim.{sheetFrom, sheetOf, allowanceOf, Fate, answered, lent, endOf, fateFrom, fateOf, Read, Labelled, Refusals}
+use Rattle.pages.specs.Claim.{sheetFrom, sheetOf, allowanceOf, Fate, answered, lent, endOf, fateFrom, fateOf, Read, Bytes, Refusals}
 use Rattle.pages.specs.Claim as Pages
+use Rattle.pages.proofs.Labels.{labels-kept}
 
 cells-kept : (n k : ℕ) → n ≡ k → n ≤ 1024 → cellsLimit n k ≡ Kept
 unfolding cellsLimit
@@ -66,18 +67,18 @@ module _ (h : Heard) (few : Few h) (labels : labelsLimit 0 (h .labels) ≡ Kept)
       go (refused r) = refl
       go (accepted cs t) = refl
 
-fate-sheet : (job : List ℕ) → Read job → Labelled job → fateOf job ≡ sheetFate (sheetOf job) (allowanceOf job)
+fate-sheet : (job : List ℕ) → Bytes job → Read job → fateOf job ≡ sheetFate (sheetOf job) (allowanceOf job)
 unfolding fateOf
-fate-sheet job read labels = go (readJob job .ending) (read .1)
+fate-sheet job bytes read = go (readJob job .ending) (read .1)
   where
     go : (x : Ending) → x ≡ sheet (read .0) → fateFrom job (readJob job .heard) x ≡ sheetFate (sheetFrom job x) (allowanceOf job)
     go (bad offset) e = never (cc)
     go (sheet start) e =
-        start-answered (readJob job .heard) (few job) labels (drop start job)
-        ∙ ap startFate (start-same (readJob job .heard) (few job) labels (drop start job))
+        start-answered (readJob job .heard) (few job) (labels-kept job bytes) (drop start job)
+        ∙ ap startFate (start-same (readJob job .heard) (few job) (labels-kept job bytes) (drop start job))
 
 pub pages-refusals : Refusals
-pages-refusals job₁ job₂ read₁ read₂ labels₁ labels₂ sheets allowances =
-    fate-sheet job₁ read₁ labels₁
+pages-refusals job₁ job₂ bytes₁ bytes₂ read₁ read₂ sheets allowances =
+    fate-sheet job₁ bytes₁ read₁
     ∙ ap₂ (λ (s : List ℕ) (n : ℕ). sheetFate s n) sheets allowances
-    ∙ sym (fate-sheet job₂ read₂ labels₂)
+    ∙ sym (fate-sheet job₂ bytes₂ read₂)

@@ -1,14 +1,12 @@
 -- Demand 3 for pages: what the page of a job tells its reader. This file states it; proofs/Private.antt shows it.
-use Prim.Native.Nat.{ℕ}
+use Prim.Native.Nat.{ℕ, _<_}
 use mathlib.Core.Path.{_≡_}
 use mathlib.Core.Logic.{_⊎_}
 use mathlib.Core.List.{List, []}
-use lib.ListN.{length, take, drop}
+use lib.ListN.{length, take, drop, getD}
 use Rattle.machine.specs.Atom.{Atom}
 use Rattle.machine.specs.Claim.{Alike}
 use Rattle.step.specs.Layout.{cellsOf}
-use Rattle.plain.specs.declared.start.Limit.the-variants.{Kept}
-use Rattle.plain.specs.Start.{labelsLimit}
 use Rattle.plain.specs.Plain.{Memory, memory}
 use Rattle.policy.specs.Standard.{standardBytes}
 use Rattle.tagged.specs.declared.Answer.{Answer}
@@ -103,13 +101,13 @@ Unrun = (job : List ℕ) → Says (pageOf job) (fateOf job)
 abbrev pub Read : List ℕ → Type 0
 Read job = (start : ℕ) × (readJob job .ending ≡ sheet start)
 
--- its label words are in range, as fields of four bytes are
-abbrev pub Labelled : List ℕ → Type 0
-Labelled job = labelsLimit 0 (readJob job .heard .labels) ≡ Kept
+-- its bytes are below 256
+abbrev pub Bytes : List ℕ → Type 0
+Bytes job = (i : ℕ) → getD job i 0 < 256
 
--- whether such a job is run or how it is refused depends on its sheet and its allowance only: of its cells it tells nothing
+-- whether a job is run or how it is refused depends on its sheet and its allowance only: of its cells it tells nothing
 abbrev pub Refusals : Type 0
 Refusals =
-    (job₁ job₂ : List ℕ) → Read job₁ → Read job₂ → Labelled job₁ → Labelled job₂ →
+    (job₁ job₂ : List ℕ) → Bytes job₁ → Bytes job₂ → Read job₁ → Read job₂ →
     sheetOf job₁ ≡ sheetOf job₂ → allowanceOf job₁ ≡ allowanceOf job₂ →
     fateOf job₁ ≡ fateOf job₂
