@@ -1,10 +1,12 @@
 -- Refusals of jobs (specs/Claim.antt): a job has at most 1,024 cells, each with a label in range, so its start is refused or accepted as
 -- one without cells is.
 -- Assumes nothing.
-use mathlib.Core.Path.{_≡_, refl, sym, ap, ap₂, _∙_}
+use mathlib.Core.Path.{_≡_, refl, sym, ap, ap₂, subst, _∙_}
+use mathlib.Core.Logic.{inl}
 use mathlib.Core.List.{List, []}
 use Prim.Native.Nat.{ℕ, _≤_}
-use lib.ListN.{length, drop}
+use lib.ListN.{length, take, drop}
+use lib.Seq.{take-length}
 use borrow.Author.Tests.{le-leb, eq-eqb}
 use Rattle.program.specs.Decode.{Decoded, decode}
 use Rattle.program.specs.Decode as Decode
@@ -16,10 +18,13 @@ use Rattle.plain.proofs.Accepted.{never}
 use Rattle.tagged.specs.Start.{Started, refused, accepted, startLimits, startDecoded, startOf}
 use Rattle.tagged.specs.Tagged.{outcomeOf, tagged}
 use Rattle.report.specs.Job.{Heard, Ending, bad, sheet, readJob}
-use Rattle.report.specs.Page.{zeros}
+use Rattle.report.specs.Lines.{jobText, refusedText}
+use Rattle.report.specs.Page.{zeros, pageOf}
 use Rattle.report.proofs.Paging.{Few, few}
-use Rattle.pages.specs.Claim.{sheetFrom, sheetOf, allowanceOf, Fate, answered, lent, endOf, fateFrom, fateOf, Read, Bytes, Refusals}
+use Rattle.pages.specs.Claim.{sheetFrom, sheetOf, allowanceOf, Fate, answered, lent, endOf, fateFrom, fateOf}
+use Rattle.pages.specs.Claim.{OneStartsOther, Says, Read, Bytes, Refusals, Whole}
 use Rattle.pages.specs.Claim as Pages
+use Rattle.pages.proofs.Private.{pages-private, pages-unrun}
 use Rattle.pages.proofs.Labels.{labels-kept}
 
 cells-kept : (n k : ℕ) → n ≡ k → n ≤ 1024 → cellsLimit n k ≡ Kept
@@ -82,3 +87,17 @@ pages-refusals job₁ job₂ bytes₁ bytes₂ read₁ read₂ sheets allowances
     fate-sheet job₁ bytes₁ read₁
     ∙ ap₂ (λ (s : List ℕ) (n : ℕ). sheetFate s n) sheets allowances
     ∙ sym (fate-sheet job₂ bytes₂ read₂)
+
+pub pages-whole : Whole
+pages-whole job₁ job₂ bytes₁ bytes₂ read₁ read₂ sheets allowances readers alike =
+    let fates = sym (pages-refusals job₁ job₂ bytes₁ bytes₂ read₁ read₂ sheets allowances) in
+    go (fateOf job₁) refl fates (pages-unrun job₁) (subst (λ (x : Fate). Says (pageOf job₂) x) fates (pages-unrun job₂))
+  where
+    same : (t : List ℕ) → pageOf job₁ ≡ t → pageOf job₂ ≡ t → OneStartsOther (pageOf job₁) (pageOf job₂)
+    same t p q = inl (sym (take-length (pageOf job₁)) ∙ ap (take (length (pageOf job₁))) (p ∙ sym q))
+
+    go : (x : Fate) → fateOf job₁ ≡ x → fateOf job₂ ≡ x → Says (pageOf job₁) x → Says (pageOf job₂) x
+        → OneStartsOther (pageOf job₁) (pageOf job₂)
+    go (Pages.bad offset) e f p q = same (jobText offset) p q
+    go (Pages.refused number place) e f p q = same (refusedText number place) p q
+    go Pages.ran e f p q = pages-private job₁ job₂ e f sheets readers alike

@@ -111,3 +111,11 @@ Refusals =
     (job₁ job₂ : List ℕ) → Bytes job₁ → Bytes job₂ → Read job₁ → Read job₂ →
     sheetOf job₁ ≡ sheetOf job₂ → allowanceOf job₁ ≡ allowanceOf job₂ →
     fateOf job₁ ≡ fateOf job₂
+
+-- so with one allowance nothing is left to except but a bad job
+abbrev pub Whole : Type 0
+Whole =
+    (job₁ job₂ : List ℕ) → Bytes job₁ → Bytes job₂ → Read job₁ → Read job₂ →
+    sheetOf job₁ ≡ sheetOf job₂ → allowanceOf job₁ ≡ allowanceOf job₂ → readerOf job₁ ≡ readerOf job₂ →
+    Alike (readerOf job₁) (cellsGiven job₁) (cellsGiven job₂) →
+    OneStartsOther (pageOf job₁) (pageOf job₂)
