@@ -1,9 +1,9 @@
 -- Demand 3 for pages: what the page of a job tells its reader. This file states it; proofs/Private.antt shows it.
-use Prim.Native.Nat.{ℕ}
+use Prim.Native.Nat.{ℕ, _<_}
 use mathlib.Core.Path.{_≡_}
 use mathlib.Core.Logic.{_⊎_}
 use mathlib.Core.List.{List, []}
-use lib.ListN.{length, take, drop}
+use lib.ListN.{length, take, drop, getD}
 use Rattle.machine.specs.Atom.{Atom}
 use Rattle.machine.specs.Claim.{Alike}
 use Rattle.step.specs.Layout.{cellsOf}
@@ -96,3 +96,26 @@ Says page ran = Unit
 
 abbrev pub Unrun : Type 0
 Unrun = (job : List ℕ) → Says (pageOf job) (fateOf job)
+
+-- a job that is not bad: its sheet starts somewhere
+abbrev pub Read : List ℕ → Type 0
+Read job = (start : ℕ) × (readJob job .ending ≡ sheet start)
+
+-- its bytes are below 256
+abbrev pub Bytes : List ℕ → Type 0
+Bytes job = (i : ℕ) → getD job i 0 < 256
+
+-- whether a job is run or how it is refused depends on its sheet and its allowance only: of its cells it tells nothing
+abbrev pub Refusals : Type 0
+Refusals =
+    (job₁ job₂ : List ℕ) → Bytes job₁ → Bytes job₂ → Read job₁ → Read job₂ →
+    sheetOf job₁ ≡ sheetOf job₂ → allowanceOf job₁ ≡ allowanceOf job₂ →
+    fateOf job₁ ≡ fateOf job₂
+
+-- so with one allowance nothing is left to except but a bad job
+abbrev pub Whole : Type 0
+Whole =
+    (job₁ job₂ : List ℕ) → Bytes job₁ → Bytes job₂ → Read job₁ → Read job₂ →
+    sheetOf job₁ ≡ sheetOf job₂ → allowanceOf job₁ ≡ allowanceOf job₂ → readerOf job₁ ≡ readerOf job₂ →
+    Alike (readerOf job₁) (cellsGiven job₁) (cellsGiven job₂) →
+    OneStartsOther (pageOf job₁) (pageOf job₂)
