@@ -9,8 +9,8 @@ seed=${1:-1}
 count=${2:-200000}
 . wrapper/archive.sh
 if [ -z "$LUVRODAN_ARCHIVE" ]; then
-    echo "no crate exports the engines: nothing to test"
-    exit 0
+    echo "engines.sh: no archive: rt staticlib exports failed" >&2
+    exit 1
 fi
 
 cargo test --offline --release --quiet -p luvrodan
