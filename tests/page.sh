@@ -1,7 +1,8 @@
 #!/usr/bin/env bash
 # The program `page` on the cases of tests/page/. A case is a file of three parts: lines that begin with # say what it shows; lines
 # that begin with 'job:' hold the job in hexadecimal bytes, where N*( .. ) repeats what stands between N times; what follows the line
-# 'page:' is what `page` must print. Needs target/bin/page (rt check page).
+# 'page:' is what `page` must print. Needs target/bin/page (rt check page). RUNNER may hold a command to run it under:
+#     RUNNER='valgrind -q --error-exitcode=9' bash tests/page.sh
 set -u
 cd "$(dirname "$0")/.." || exit 2
 page=target/bin/page
@@ -31,7 +32,7 @@ for case in tests/page/*.case; do
     bytes "$case" > "$scratch/escapes"
     printf "$(cat "$scratch/escapes")" > "$scratch/job"
     sed '1,/^page:$/d' "$case" > "$scratch/want"
-    if ! "$page" < "$scratch/job" > "$scratch/got"; then
+    if ! ${RUNNER:-} "$page" < "$scratch/job" > "$scratch/got"; then
         echo "$case: page ended with a failure"
         failed=$((failed + 1))
     elif ! cmp -s "$scratch/want" "$scratch/got"; then
