@@ -1,4 +1,5 @@
 pub mod Signed
+pub mod Bits
 pub mod Bool
 pub mod Lay
 pub mod Laws

@@ -27,6 +27,14 @@ pub enum Index {
 pub fn below(word: i64, bound: usize) -> Index
     ensures { λ r. ⌜ r ≡ indexOf word bound ⌝ }
 {
+    if bound < 9223372036854775808 {
+        // the bits of a negative word lie above such a bound: one test for both ends
+        let bits = crate::wrap::to_bits(word);
+        if bits < bound as u64 {
+            return Index::At(bits as usize);
+        }
+        return Index::Outside;
+    }
     let number = unsigned(word);
     match number {
         Natural::Negative => Index::Outside,
