@@ -6,45 +6,28 @@ use word::kind::Address;
 use word::kind::Pc;
 use word::number::Index;
 ghost use mathlib.Core.Path.{_≡_};
-ghost use Rattle.step.specs.Lent.{onStack, onLines, onCells, outcome};
-ghost use Rattle.step.specs.Phase.{sumOf, branchOf};
+ghost use Rattle.step.specs.Lent.{onStack, onLines, onCells};
 ghost use Rattle.commands.specs.Command.{arithOf, popOf, outputOf, pushOf, loadOf, storeOf, jumpOf, bnzOf, callOf, retOf};
 
-fn stopped(machine: Machine, stop: u64) -> Stepped
-    ensures { λ r. ⌜ r ≡ outcome machine stop ⌝ }
-{
-    Stepped { machine, stop }
-}
-
-fn sum(code: u64, a: i64, b: i64) -> i64
-    ensures { λ r. ⌜ r ≡ sumOf code a b ⌝ }
-{
-    if code == 1 {
-        word::wrap::add(a, b)
-    } else {
-        word::wrap::sub(a, b)
-    }
-}
-
-// Add and Sub: P; L1+L2.
+// Add and Sub: P; L1+L2. The lower value is looked at first: where it is there, so is the upper, and the compiler drops a test.
 pub fn arith(code: u64, m: Machine, stack: &mut [i64]) -> Stepped
     ensures { λ r. ⌜ onStack r (now (stack .exit)) ≡ arithOf code m (now (stack .entry)) ⌝ }
 {
     let depth = m.depth;
     let place = m.label;
-    let a = step::look(stack, depth, 0);
-    if a.kind != 0 {
-        return stopped(m, 3);
-    }
     let b = step::look(stack, depth, 1);
     if b.kind != 0 {
-        return stopped(m, 3);
+        return step::stopped(m, 3);
     }
-    let number = sum(code, a.number, b.number);
+    let a = step::look(stack, depth, 0);
+    if a.kind != 0 {
+        return step::stopped(m, 3);
+    }
+    let number = step::phase::sum(code, a.number, b.number);
     let label = a.label.join(b.label);
     let under = m.drop().drop();
-    let over = under.push(stack, 0, number, label);
-    stopped(over.following(place), 9)
+    let over = under.refill(stack, number, label);
+    step::stopped(over.following(place), 9)
 }
 
 // Pop: P; nothing.
@@ -55,9 +38,9 @@ pub fn pop(m: Machine, stack: &[i64]) -> Stepped
     let place = m.label;
     let a = step::look(stack, depth, 0);
     if a.kind != 0 {
-        return stopped(m, 3);
+        return step::stopped(m, 3);
     }
-    stopped(m.drop().following(place), 9)
+    step::stopped(m.drop().following(place), 9)
 }
 
 // Output: P; L1+P labels the line. The room is tested after the rule, which always allows.
@@ -75,15 +58,15 @@ pub fn output(
     let lines = m.lines;
     let a = step::look(stack, depth, 0);
     if a.kind != 0 {
-        return stopped(m, 3);
+        return step::stopped(m, 3);
     }
     if lines < room {
         let label = a.label.join(place);
         word::memory::put(numbers, lines, a.number);
         word::memory::put(marks, lines, label.word());
-        return stopped(m.drop().print(room).following(place), 9);
+        return step::stopped(m.drop().print(room).following(place), 9);
     }
-    stopped(m, 8)
+    step::stopped(m, 8)
 }
 
 // Push: P; the empty label.
@@ -94,9 +77,9 @@ pub fn push(operand: i64, m: Machine, stack: &mut [i64]) -> Stepped
     let place = m.label;
     if depth < 256 {
         let over = m.push(stack, 0, operand, Label::EMPTY);
-        return stopped(over.following(place), 9);
+        return step::stopped(over.following(place), 9);
     }
-    stopped(m, 7)
+    step::stopped(m, 7)
 }
 
 // Load: P; L1+L2.
@@ -107,16 +90,16 @@ pub fn load(m: Machine, stack: &mut [i64], values: &[i64], labels: &[i64]) -> St
     let place = m.label;
     let a = step::look(stack, depth, 0);
     if a.kind != 0 {
-        return stopped(m, 3);
+        return step::stopped(m, 3);
     }
     let cell = Address(a.number).index(values.len());
     match cell {
         Index::At(i) => {
             let label = a.label.join(Label::low(word::memory::at(labels, i)));
-            let over = m.drop().push(stack, 0, word::memory::at(values, i), label);
-            stopped(over.following(place), 9)
+            let over = m.drop().refill(stack, word::memory::at(values, i), label);
+            step::stopped(over.following(place), 9)
         }
-        Index::Outside => stopped(m, 5),
+        Index::Outside => step::stopped(m, 5),
     }
 }
 
@@ -128,11 +111,11 @@ pub fn store(m: Machine, stack: &[i64], values: &mut [i64], labels: &mut [i64]) 
     let place = m.label;
     let a = step::look(stack, depth, 0);
     if a.kind != 0 {
-        return stopped(m, 3);
+        return step::stopped(m, 3);
     }
     let b = step::look(stack, depth, 1);
     if b.kind != 0 {
-        return stopped(m, 3);
+        return step::stopped(m, 3);
     }
     let cell = Address(a.number).index(values.len());
     match cell {
@@ -142,11 +125,11 @@ pub fn store(m: Machine, stack: &[i64], values: &mut [i64], labels: &mut [i64]) 
                 let label = a.label.join(b.label).join(place);
                 word::memory::put(values, i, b.number);
                 word::memory::put(labels, i, label.word());
-                return stopped(m.drop().drop().following(place), 9);
+                return step::stopped(m.drop().drop().following(place), 9);
             }
-            stopped(m, 6)
+            step::stopped(m, 6)
         }
-        Index::Outside => stopped(m, 5),
+        Index::Outside => step::stopped(m, 5),
     }
 }
 
@@ -158,19 +141,9 @@ pub fn jump(m: Machine, stack: &[i64]) -> Stepped
     let place = m.label;
     let a = step::look(stack, depth, 0);
     if a.kind != 0 {
-        return stopped(m, 3);
+        return step::stopped(m, 3);
     }
-    stopped(m.drop().goto(Pc(a.number), a.label.join(place)), 9)
-}
-
-fn branch(number: i64, pc: Pc, operand: i64) -> Pc
-    ensures { λ r. ⌜ r .0 ≡ branchOf number (pc .0) operand ⌝ }
-{
-    if number == 0 {
-        pc.offset(1)
-    } else {
-        pc.offset(operand)
-    }
+    step::stopped(m.drop().goto(Pc(a.number), a.label.join(place)), 9)
 }
 
 // Bnz: L1+P.
@@ -182,10 +155,10 @@ pub fn bnz(operand: i64, m: Machine, stack: &[i64]) -> Stepped
     let pc = m.pc;
     let a = step::look(stack, depth, 0);
     if a.kind != 0 {
-        return stopped(m, 3);
+        return step::stopped(m, 3);
     }
-    let target = branch(a.number, pc, operand);
-    stopped(m.drop().goto(target, a.label.join(place)), 9)
+    let target = step::phase::branch(a.number, pc, operand);
+    step::stopped(m.drop().goto(target, a.label.join(place)), 9)
 }
 
 // Call: L1+P; P labels the frame.
@@ -197,17 +170,17 @@ pub fn call(m: Machine, stack: &mut [i64]) -> Stepped
     let pc = m.pc;
     let a = step::look(stack, depth, 0);
     if a.kind != 0 {
-        return stopped(m, 3);
+        return step::stopped(m, 3);
     }
     let b = step::look(stack, depth, 1);
     if b.kind != 0 {
-        return stopped(m, 3);
+        return step::stopped(m, 3);
     }
     let back = pc.offset(1);
     let under = m.drop().drop();
     let framed = under.push(stack, 1, back.0, place);
     let over = framed.push(stack, 0, b.number, b.label);
-    stopped(over.goto(Pc(a.number), a.label.join(place)), 9)
+    step::stopped(over.goto(Pc(a.number), a.label.join(place)), 9)
 }
 
 // Ret: L1, the frame's.
@@ -217,7 +190,7 @@ pub fn ret(m: Machine, stack: &[i64]) -> Stepped
     let depth = m.depth;
     let a = step::look(stack, depth, 0);
     if a.kind == 1 {
-        return stopped(m.drop().goto(Pc(a.number), a.label), 9);
+        return step::stopped(m.drop().goto(Pc(a.number), a.label), 9);
     }
-    stopped(m, 4)
+    step::stopped(m, 4)
 }

@@ -1,3 +1,4 @@
 pub mod Kind
 pub mod Zero
+pub mod Entry
 pub mod Link

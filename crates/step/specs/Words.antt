@@ -3,7 +3,7 @@ use Prim.Native.Nat.{ℕ, _+_, _-_, _*_}
 use mathlib.Core.Bool.{Bool, true, false}
 use mathlib.Core.List.{List}
 use lib.IntN.{ℤ, pos, negsuc}
-use lib.ListN.{getD, set}
+use lib.ListN.{length, getD, set}
 use lib.Dec.{ltb, leb, eqb}
 use Rattle.word.specs.Wrap.{addWrap}
 use Rattle.label.specs.Word.{lowLabel}
@@ -29,8 +29,17 @@ pushed m = choose (ltb (m .depth) 256) (machine (m .pc .0) (m .label .0) (m .dep
 unfoldable pub setEntry : List ℤ → ℕ → ℤ → ℤ → ℕ → List ℤ
 setEntry stack i kind number label = set (set (set stack (3 * i) kind) (3 * i + 1) number) (3 * i + 2) (pos label)
 
+-- the space has room for 256 entries, and for one more above so many
+abbrev pub ifRoom : ℕ → List ℤ → List ℤ → List ℤ
+ifRoom depth stack on = choose (ltb depth 256) (choose (leb 768 (length stack)) on stack) stack
+
 unfoldable pub pushedStack : Machine → List ℤ → ℤ → ℤ → ℕ → List ℤ
-pushedStack m stack kind number label = choose (ltb (m .depth) 256) (setEntry stack (m .depth) kind number label) stack
+pushedStack m stack kind number label = ifRoom (m .depth) stack (setEntry stack (m .depth) kind number label)
+
+-- the kind stays
+unfoldable pub refilledStack : Machine → List ℤ → ℤ → ℕ → List ℤ
+refilledStack m stack number label =
+    ifRoom (m .depth) stack (set (set stack (3 * m .depth + 1) number) (3 * m .depth + 2) (pos label))
 
 unfoldable pub dropped : Machine → Machine
 dropped m = choose (ltb 0 (m .depth)) (machine (m .pc .0) (m .label .0) (m .depth - 1) (m .lines)) m
@@ -56,6 +65,9 @@ kindOf (negsuc n) = 1
 unfoldable pub entryAt : List ℤ → ℕ → Slot
 entryAt stack i = slotOf (kindOf (getD stack (3 * i) (pos 0))) (getD stack (3 * i + 1) (pos 0)) (lowLabel (getD stack (3 * i + 2) (pos 0)))
 
--- the entry so many below the top of a stack of `depth` entries
+-- the entry so many below the top of a stack of `depth` entries; nothing where these are over 256, or in a space for less
 unfoldable pub slotAt : List ℤ → ℕ → ℕ → Slot
-slotAt stack depth below = choose (leb depth below) (slotOf 2 (pos 0) 0) (entryAt stack (depth - below - 1))
+slotAt stack depth below =
+    let none = slotOf 2 (pos 0) 0 in
+    choose (leb depth below) none
+    (choose (ltb 256 depth) none (choose (ltb (length stack) 768) none (entryAt stack (depth - below - 1))))

@@ -5,14 +5,15 @@ pub mod phase;
 use label::Label;
 use word::kind::Pc;
 ghost use mathlib.Core.Path.{_≡_};
-ghost use Rattle.step.specs.Words.{started, pushed, pushedStack, dropped, gone, following, printed, slotAt};
+ghost use lib.IntN.{pos};
+ghost use Rattle.step.specs.Words.{started, pushed, pushedStack, refilledStack, dropped, gone, following, printed, slotOf, slotAt};
 ghost use Rattle.step.specs.Lent.{outcome};
 
 // The machine record: the place, its label, how many entries the stack has and how many lines are written.
 pub struct Machine {
     pub pc: Pc,
     pub label: Label,
-    pub depth: u32,
+    pub depth: usize,
     pub lines: usize,
 }
 
@@ -29,17 +30,37 @@ impl Machine {
         }
     }
 
-    // One entry more: its kind, number and label, bottom first in the lent stack. A full stack stays as it is.
+    // One entry more: its kind, number and label, bottom first in the lent stack. A full stack stays as it is,
+    // and so does a space for less than 256 entries.
     pub fn push(mut self, stack: &mut [i64], kind: i64, number: i64, label: Label) -> Machine
         ensures record { λ r. ⌜ r ≡ pushed self ⌝ }
         ensures stack { λ _. ⌜ now (stack .exit) ≡ pushedStack self (now (stack .entry)) kind number (label .0) ⌝ }
     {
         let depth = self.depth;
         if depth < 256 {
-            let i = 3 * depth as usize;
-            word::memory::put(stack, i, kind);
-            word::memory::put(stack, i + 1, number);
-            word::memory::put(stack, i + 2, label.word());
+            if 768 <= stack.len() {
+                let i = 3 * depth;
+                stack[i] = kind;
+                stack[i + 1] = number;
+                stack[i + 2] = label.word();
+            }
+            self.depth = depth + 1;
+        }
+        self
+    }
+
+    // An entry more, whose kind stays as the stack has it: one that was just dropped, with another number and label.
+    pub fn refill(mut self, stack: &mut [i64], number: i64, label: Label) -> Machine
+        ensures record { λ r. ⌜ r ≡ pushed self ⌝ }
+        ensures stack { λ _. ⌜ now (stack .exit) ≡ refilledStack self (now (stack .entry)) number (label .0) ⌝ }
+    {
+        let depth = self.depth;
+        if depth < 256 {
+            if 768 <= stack.len() {
+                let at = 3 * depth;
+                stack[at + 1] = number;
+                stack[at + 2] = label.word();
+            }
             self.depth = depth + 1;
         }
         self
@@ -103,20 +124,33 @@ pub struct Slot {
     pub label: Label,
 }
 
-pub fn look(stack: &[i64], depth: u32, below: u32) -> Slot
+fn nothing() -> Slot
+    ensures { λ r. ⌜ r ≡ slotOf 2 (pos 0) 0 ⌝ }
+{
+    Slot {
+        kind: 2,
+        number: 0,
+        label: Label::EMPTY,
+    }
+}
+
+// One test for the three words: with more than 256 entries, or in a space for less, nothing is found.
+pub fn look(stack: &[i64], depth: usize, below: usize) -> Slot
     ensures { λ r. ⌜ r ≡ slotAt (now (stack .entry)) depth below ⌝ }
 {
     if depth <= below {
-        return Slot {
-            kind: 2,
-            number: 0,
-            label: Label::EMPTY,
-        };
+        return nothing();
     }
-    let i = 3 * (depth - below - 1) as usize;
-    let kind = word::memory::at(stack, i);
-    let number = word::memory::at(stack, i + 1);
-    let label = Label::low(word::memory::at(stack, i + 2));
+    if 256 < depth {
+        return nothing();
+    }
+    if stack.len() < 768 {
+        return nothing();
+    }
+    let i = 3 * (depth - below - 1);
+    let kind = stack[i];
+    let number = stack[i + 1];
+    let label = Label::low(stack[i + 2]);
     if kind == 0 {
         Slot {
             kind: 0,

@@ -1,12 +1,22 @@
 -- `commands::arith` meets its contract.
 -- Assumes nothing.
+use denote.Ref.{now}
+use mathlib.Core.Path.{_≡_, refl}
+use mathlib.Core.Bool.{Bool, true, false}
 use native.Mathlib.Omega.{arith}
 use borrow.Author.Tests.{eq-eqb, ne-eqb}
-use Rattle.word.proofs.Signed.{back, back-ok}
+use Rattle.word.proofs.Signed.{back-ok}
+use Rattle.step.specs.Words.{choose}
+use Rattle.step.proofs.Entry.{refill-second}
 use Rattle.commands.specs.Command.{arithOf}
 use borrow.Author.Needs.{needs}
 use Rattle.commands.proofs.arith.Statement.{statement}
 use Rattle.commands.proofs.arith.Tie as tie
+
+-- without the second value it does not matter what the first is
+choose-same : {A : Type 0} (b : Bool) (x : A) → choose b x x ≡ x
+choose-same true x = refl
+choose-same false x = refl
 
 look-requires : tie.Need-look-requires
 look-requires c κs = search needs
@@ -22,7 +32,7 @@ unfolding arithOf
 returns c =
     let at-if1 = c .before in
     let at-look = at-if1 .before .before in
-    rw (c .stopped .ensures, ← at-look .look .ensures, ne-eqb _ _ (at-if1 .if1 .taken))
+    rw (c .stopped .ensures, ← at-look .look .ensures, ne-eqb _ _ (at-if1 .if1 .taken), choose-same)
 
 look-requires-2 : tie.Need-look-requires-2
 look-requires-2 c κs = search needs
@@ -60,8 +70,8 @@ drop-requires c κs = search needs
 drop-requires-2 : tie.Need-drop-requires-2
 drop-requires-2 c κs = search needs
 
-push-requires : tie.Need-push-requires
-push-requires c κs = search needs
+refill-requires : tie.Need-refill-requires
+refill-requires c κs = search needs
 
 following-requires : tie.Need-following-requires
 following-requires c κs = search needs
@@ -76,8 +86,8 @@ returns-3 : tie.Need-returns-3
 unfolding arithOf
 returns-3 c =
     let at-following = c .before in
-    let at-push = at-following .before .before in
-    let at-drop2 = at-push .before .before in
+    let at-refill = at-following .before .before in
+    let at-drop2 = at-refill .before .before in
     let at-drop = at-drop2 .before in
     let at-join = at-drop .before in
     let at-sum = at-join .before in
@@ -87,6 +97,7 @@ returns-3 c =
     let at-if1 = at-look2 .before .before in
     let at-struct-known = at-if1 .before in
     let at-look = at-struct-known .before in
+    let start = at-look .before .before .before in
     rw (
       ← at-look .look .ensures,
       ← at-look2 .look2 .ensures,
@@ -94,10 +105,11 @@ returns-3 c =
       eq-eqb _ _ (at-if2 .if2 .left),
       c .stopped3 .ensures,
       at-following .following .ensures,
-      at-push .push .ensures .0,
-      at-push .push .ensures .1,
+      at-refill .refill .ensures .0,
+      at-refill .refill .ensures .1,
       at-drop2 .drop2 .ensures,
       at-drop .drop .ensures,
+      refill-second (start .args .m) (now (start .args .stack)) _ _ (rw (← at-look .look .ensures) (at-if1 .if1 .left)),
       back-ok (at-sum .sum .result) (at-sum .sum .ok),
       at-sum .sum .ensures,
       back-ok (at-look .look .result .number) (omega (arith, at-look .look .ok)),
@@ -121,7 +133,7 @@ arith-spec =
     join-requires
     drop-requires
     drop-requires-2
-    push-requires
+    refill-requires
     following-requires
     stopped-requires-3
     same-length-3

@@ -1,8 +1,10 @@
 -- `commands::load` meets its contract.
 -- Assumes nothing.
+use denote.Ref.{now}
 use native.Mathlib.Omega.{arith}
 use borrow.Author.Tests.{eq-eqb, ne-eqb}
-use Rattle.word.proofs.Signed.{back, back-ok}
+use Rattle.word.proofs.Signed.{back-ok}
+use Rattle.step.proofs.Entry.{refill-first}
 use Rattle.commands.specs.Command.{loadOf}
 use borrow.Author.Needs.{needs}
 use Rattle.commands.proofs.load.Statement.{statement}
@@ -45,8 +47,8 @@ drop-requires c κs = search needs
 at-requires-2 : tie.Need-at-requires-2
 at-requires-2 c κs = search needs
 
-push-requires : tie.Need-push-requires
-push-requires c κs = search needs
+refill-requires : tie.Need-refill-requires
+refill-requires c κs = search needs
 
 following-requires : tie.Need-following-requires
 following-requires c κs = search needs
@@ -67,8 +69,8 @@ returns-2 : tie.Need-returns-2
 unfolding loadOf
 returns-2 c =
     let at-following = c .before in
-    let at-push = at-following .before .before in
-    let at-at2 = at-push .before in
+    let at-refill = at-following .before .before in
+    let at-at2 = at-refill .before in
     let at-drop = at-at2 .before .before in
     let at-join = at-drop .before in
     let at-low = at-join .before in
@@ -77,6 +79,7 @@ returns-2 c =
     let at-index = at-cell .before .before in
     let at-if1 = at-index .before .before in
     let at-look = at-if1 .before .before in
+    let start = at-look .before .before .before in
     rw (
       ← at-look .look .ensures,
       eq-eqb _ _ (at-if1 .if1 .left),
@@ -84,8 +87,8 @@ returns-2 c =
       at-cell .cell .given .1,
       c .stopped2 .ensures,
       at-following .following .ensures,
-      at-push .push .ensures .0,
-      at-push .push .ensures .1,
+      at-refill .refill .ensures .0,
+      at-refill .refill .ensures .1,
       back-ok (at-at2 .at2 .result) (at-at2 .at2 .ok),
       at-at2 .at2 .ensures,
       at-join .join .ensures,
@@ -93,6 +96,7 @@ returns-2 c =
       back-ok (at-at .at .result) (at-at .at .ok),
       at-at .at .ensures,
       at-drop .drop .ensures,
+      refill-first (start .args .m) (now (start .args .stack)) _ _ (rw (← at-look .look .ensures) (at-if1 .if1 .left)),
     )
 
 same-length-3 : tie.Need-same-length-3
@@ -128,7 +132,7 @@ load-spec =
     join-requires
     drop-requires
     at-requires-2
-    push-requires
+    refill-requires
     following-requires
     stopped-requires-2
     enum-told

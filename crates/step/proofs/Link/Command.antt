@@ -51,10 +51,10 @@ module _ {room : ℕ} {numbers₀ marks₀ : List ℤ} {s : State} {l : Lent} (r
   Found c = Asks c (request room c s) (found c (machineOf s) l)
 
   first-is : first (machineOf s) (l .stack) ≡ topSlot (s .stack)
-  first-is = slot-top (s .stack) (r .stack) (h .labels .stack)
+  first-is = slot-top (s .stack) (r .stack) (h .labels .stack) (h .depth) (h .space)
 
   second-is : second (machineOf s) (l .stack) ≡ topSlot (below (s .stack))
-  second-is = slot-below (s .stack) (r .stack) (h .labels .stack)
+  second-is = slot-below (s .stack) (r .stack) (h .labels .stack) (h .depth) (h .space)
 
   cells : length (l .values) ≡ length (s .memory)
   cells = ap length (r .values) ∙ length-map (s .memory) (λ a. a .number)

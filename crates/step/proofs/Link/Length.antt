@@ -6,7 +6,7 @@ use mathlib.Core.List.{List}
 use Prim.Native.Nat.{ℕ}
 use lib.IntN.{ℤ}
 use lib.ListN.{length, length-set}
-use lib.Dec.{ltb, eqb}
+use lib.Dec.{ltb, leb, eqb}
 use Rattle.word.specs.declared.number.Index.{Index}
 use Rattle.word.specs.declared.number.Index.the-variants.{At, Outside}
 use Rattle.word.specs.Number.{indexOf}
@@ -42,7 +42,9 @@ entry-same st i k n label = simp length-set
 
 pushed-same : (m : Machine) (st : List ℤ) (k n : ℤ) (label : ℕ) → Same (pushedStack m st k n label) st
 unfolding pushedStack
-pushed-same m st k n label = choose-all (λ x. Same x st) (ltb (m .depth) 256) _ _ (entry-same st _ k n label) refl
+pushed-same m st k n label =
+    choose-all (λ x. Same x st) (ltb (m .depth) 256) _ _
+    (choose-all (λ x. Same x st) (leb 768 (length st)) _ _ (entry-same st (m .depth) k n label) refl) refl
 
 module _ (p r : ℕ) (m : Machine) (l : Lent) where
   abbrev Stack : OnStack → Type 0

@@ -3,15 +3,16 @@
 -- Assumes nothing.
 use mathlib.Core.Path.{_≡_, refl, ap, _∙_}
 use mathlib.Core.List.{List, [], _∷_, _++_, append-assoc}
-use Prim.Native.Nat.{ℕ, suc, _+_, _*_, _-_, _^_, _<_, _≤_}
+use Prim.Native.Nat.{ℕ, suc, _+_, _*_, _^_, _<_, _≤_}
 use native.Mathlib.Nat.{mod-eq-of-lt, add-zero}
 use native.Mathlib.Omega.{arith}
 use lib.IntN.{ℤ, pos}
 use lib.ListN.{length, getD, drop, length-append}
 use lib.Seq.{getD-append-add}
-use borrow.Author.Tests.{lt-leb, lt-ltb}
+use borrow.Author.Tests.{le-leb, lt-ltb}
 use Rattle.word.specs.Lay.{laid}
 use Rattle.word.specs.Wrap.{residue}
+use Rattle.word.proofs.Lay.{length-laid}
 use Rattle.label.specs.Label.{InRange}
 use Rattle.label.specs.Word.{lowLabel}
 use Rattle.machine.specs.Atom.{Atom, Entry, value, frame}
@@ -19,6 +20,7 @@ use Rattle.machine.specs.Holds.{Each, EntryHas}
 use Rattle.step.specs.declared.Slot.{Slot}
 use Rattle.step.specs.Words.{machine, slotOf, kindOf, entryAt, slotAt, setEntry, pushedStack}
 use Rattle.step.specs.Layout.{entryWords, stackWords}
+use Rattle.step.proofs.Entry.{slot-entry}
 use Rattle.step.proofs.Link.Laid.{laid-prefix, laid-set}
 
 pub lowLabel-id : (n : ℕ) → InRange n → lowLabel (pos n) ≡ n
@@ -84,20 +86,21 @@ unfolding stackWords
 entry-top (value a) es h r = entry-read (stackWords es) (pos 0) (a .number) (a .label) (length es) (stackWords-length es) (r .0 .1) h
 entry-top (frame a) es h r = entry-read (stackWords es) (pos 1) (a .number) (a .label) (length es) (stackWords-length es) (r .0 .1) h
 
-pub slot-top : (es : List Entry) {st : List ℤ} → Held es st → Labelled es → slotAt st (length es) 0 ≡ topSlot es
+pub slot-top : (es : List Entry) {st : List ℤ} → Held es st → Labelled es → length es ≤ 256 → 768 ≤ length st
+    → slotAt st (length es) 0 ≡ topSlot es
 unfolding slotAt
-slot-top [] h r = refl
-slot-top (e ∷ es) h r =
-    let i : suc (length es) - 0 - 1 ≡ length es = omega arith in
-    rw (lt-leb (suc (length es)) 0 (omega arith), i) (entry-top e es h r)
+slot-top [] h r fits space = refl
+slot-top (e ∷ es) {st} h r fits space =
+    slot-entry st (suc (length es)) 0 (length es) (omega arith) fits space (omega arith) ∙ entry-top e es h r
 
-pub slot-below : (es : List Entry) {st : List ℤ} → Held es st → Labelled es → slotAt st (length es) 1 ≡ topSlot (below es)
+pub slot-below : (es : List Entry) {st : List ℤ} → Held es st → Labelled es → length es ≤ 256 → 768 ≤ length st
+    → slotAt st (length es) 1 ≡ topSlot (below es)
 unfolding slotAt
-slot-below [] h r = refl
-slot-below (e ∷ []) h r = refl
-slot-below (d ∷ e ∷ es) h r =
-    let i : suc (suc (length es)) - 1 - 1 ≡ length es = omega arith in
-    rw (lt-leb (suc (suc (length es))) 1 (omega arith), i) (entry-top e es (held-tail d (e ∷ es) h) (r .1))
+slot-below [] h r fits space = refl
+slot-below (e ∷ []) h r fits space = refl
+slot-below (d ∷ e ∷ es) {st} h r fits space =
+    slot-entry st (suc (suc (length es))) 1 (length es) (omega arith) fits space (omega arith)
+    ∙ entry-top e es (held-tail d (e ∷ es) h) (r .1)
 
 -- ════════════════════════════════════════════════════════════════════════════════════════════
 -- Writing
@@ -139,4 +142,7 @@ pub stack-pushed : (pc : ℤ) (label lines : ℕ) (e : Entry) (es : List Entry) 
     → pushedStack (machine pc label (length es) lines) st (kindWord e) (atomOf e .number) (atomOf e .label)
     ≡ laid (stackWords (e ∷ es)) old
 unfolding pushedStack
-stack-pushed pc label lines e es old h room g = rw (lt-ltb (length es) 256 h) (entry-laid e es old (omega arith) g)
+stack-pushed pc label lines e es old {st} h room g =
+    let fits : length (stackWords es) ≤ length old = rw (stackWords-length es) (omega arith) in
+    let same : length st ≡ length old = rw g (length-laid (stackWords es) old fits) in
+    rw (lt-ltb (length es) 256 h, le-leb 768 (length st) (omega arith)) (entry-laid e es old (omega arith) g)

@@ -1,60 +1,67 @@
 -- `step::Machine::push` meets its contract: three stores, one after the other.
 -- Assumes nothing.
-use borrow.Author.Tests.{lt-ltb, le-ltb}
+use mathlib.Core.Logic.{⊎-elim}
+use lib.ListN.{length-set}
+use borrow.Author.Tests.{lt-ltb, le-ltb, le-leb, lt-leb}
 use Rattle.word.proofs.Signed.{back, back-ok}
 use Rattle.step.specs.Words.{pushed, setEntry, pushedStack}
 use borrow.Author.Needs.{needs}
 use Rattle.step.proofs.Machine.push.Statement.{statement}
 use Rattle.step.proofs.Machine.push.Tie as tie
 
-cast-i : tie.Need-cast-i
-cast-i c = search needs
-
 mul-i : tie.Need-mul-i
 mul-i c = search needs
 
-put-requires : tie.Need-put-requires
-put-requires c κs = search needs
+mul-kind : tie.Need-mul-kind
+mul-kind c = search needs
 
-add-put : tie.Need-add-put
-add-put c = search needs
+slice-set-from-kind : tie.Need-slice-set-from-kind
+slice-set-from-kind c = search needs
 
-put-requires-2 : tie.Need-put-requires-2
-put-requires-2 c κs = search needs
+add-number : tie.Need-add-number
+add-number c = search needs
 
-add-put-2 : tie.Need-add-put-2
-add-put-2 c = search needs
+mul-number : tie.Need-mul-number
+mul-number c = search needs
+
+slice-set-from-number : tie.Need-slice-set-from-number
+slice-set-from-number c = rw length-set (search needs)
 
 word-requires : tie.Need-word-requires
 word-requires c κs = search needs
 
-put-requires-3 : tie.Need-put-requires-3
-put-requires-3 c κs = search needs
+add-t11 : tie.Need-add-t11
+add-t11 c = search needs
+
+mul-t13 : tie.Need-mul-t13
+mul-t13 c = search needs
+
+slice-set-from-stack : tie.Need-slice-set-from-stack
+slice-set-from-stack c = rw (length-set, length-set) (search needs)
 
 add-self : tie.Need-add-self
 add-self c = search needs
 
 same-length : tie.Need-same-length
-same-length c = search needs
+same-length c = ⊎-elim (λ w. rw (w .2, length-set, length-set, length-set)) (λ w. rw (w .1)) (c .if2 .came)
 
 returns : tie.Need-returns
 unfolding pushed pushedStack setEntry
 returns c =
-    let w = c .before .before in
-    let p2 = w .before .before .before in
-    let p1 = p2 .before .before .before in
-    let s = p1 .before .before .before in (
-      rw (lt-ltb _ _ (p1 .before .before .if1 .taken)),
-      rw (
-        lt-ltb _ _ (p1 .before .before .if1 .taken),
-        c .before .put3 .ensures,
-        p2 .put2 .ensures,
-        p1 .put .ensures,
-        back {z = s .args .kind} (s .fits .kind),
-        back {z = s .args .number} (s .fits .number),
-        back-ok (w .word .result) (w .word .ok),
-        w .word .ensures,
-      ),
+    let s = c .before .before in (
+      rw (lt-ltb _ _ (c .before .if1 .taken)),
+      ⊎-elim
+          (λ w. rw (
+            lt-ltb _ _ (c .before .if1 .taken),
+            le-leb _ _ (w .0 .taken),
+            w .2,
+            back {z = s .args .kind} (s .fits .kind),
+            back {z = s .args .number} (s .fits .number),
+            back-ok (w .1 .result) (w .1 .ok),
+            w .1 .ensures,
+          ))
+          (λ w. rw (lt-ltb _ _ (c .before .if1 .taken), lt-leb _ _ (w .0 .left), w .1))
+          (c .if2 .came),
     )
 
 returns-2 : tie.Need-returns-2
@@ -65,14 +72,16 @@ pub push-spec : {M : Type 1} → statement M
 push-spec =
     tie.close
     (tie.spec
-    cast-i
     mul-i
-    put-requires
-    add-put
-    put-requires-2
-    add-put-2
+    mul-kind
+    slice-set-from-kind
+    add-number
+    mul-number
+    slice-set-from-number
     word-requires
-    put-requires-3
+    add-t11
+    mul-t13
+    slice-set-from-stack
     add-self
     same-length
     returns

@@ -1,0 +1,79 @@
+-- `step::Machine::refill` meets its contract: two stores, one after the other.
+-- Assumes nothing.
+use mathlib.Core.Logic.{⊎-elim}
+use lib.ListN.{length-set}
+use borrow.Author.Tests.{lt-ltb, le-ltb, le-leb, lt-leb}
+use Rattle.word.proofs.Signed.{back, back-ok}
+use Rattle.step.specs.Words.{pushed, refilledStack}
+use borrow.Author.Needs.{needs}
+use Rattle.step.proofs.Machine.refill.Statement.{statement}
+use Rattle.step.proofs.Machine.refill.Tie as tie
+
+mul-at : tie.Need-mul-at
+mul-at c = search needs
+
+add-number : tie.Need-add-number
+add-number c = search needs
+
+mul-number : tie.Need-mul-number
+mul-number c = search needs
+
+slice-set-from-number : tie.Need-slice-set-from-number
+slice-set-from-number c = search needs
+
+word-requires : tie.Need-word-requires
+word-requires c κs = search needs
+
+add-t10 : tie.Need-add-t10
+add-t10 c = search needs
+
+mul-t11 : tie.Need-mul-t11
+mul-t11 c = search needs
+
+slice-set-from-stack : tie.Need-slice-set-from-stack
+slice-set-from-stack c = rw length-set (search needs)
+
+add-self : tie.Need-add-self
+add-self c = search needs
+
+same-length : tie.Need-same-length
+same-length c = ⊎-elim (λ w. rw (w .2, length-set, length-set)) (λ w. rw (w .1)) (c .if2 .came)
+
+returns : tie.Need-returns
+unfolding pushed refilledStack
+returns c =
+    let s = c .before .before in (
+      rw (lt-ltb _ _ (c .before .if1 .taken)),
+      ⊎-elim
+          (λ w. rw (
+            lt-ltb _ _ (c .before .if1 .taken),
+            le-leb _ _ (w .0 .taken),
+            w .2,
+            back {z = s .args .number} (s .fits .number),
+            back-ok (w .1 .result) (w .1 .ok),
+            w .1 .ensures,
+          ))
+          (λ w. rw (lt-ltb _ _ (c .before .if1 .taken), lt-leb _ _ (w .0 .left), w .1))
+          (c .if2 .came),
+    )
+
+returns-2 : tie.Need-returns-2
+unfolding pushed refilledStack
+returns-2 c = (rw (le-ltb _ _ (c .if1 .left)), rw (le-ltb _ _ (c .if1 .left)))
+
+pub refill-spec : {M : Type 1} → statement M
+refill-spec =
+    tie.close
+    (tie.spec
+    mul-at
+    add-number
+    mul-number
+    slice-set-from-number
+    word-requires
+    add-t10
+    mul-t11
+    slice-set-from-stack
+    add-self
+    same-length
+    returns
+    returns-2)
