@@ -111,7 +111,7 @@ pub record Fine (sheet : List ℕ) (m : Memory) (cs : List Command) : Type 0 whe
   pub stack : 768 ≤ length (m .stack)
 
 module _ (sheet : List ℕ) (m : Memory) (fuel : ℕ) where
-  abbrev answer : Decoded
+  abbrev pub answer : Decoded
   answer = startOf sheet (length (m .values)) (m .labels) (length (m .program)) (length (m .stack)) fuel
 
   limits-fine : (cs : List Command) → decode sheet ≡ accepted cs
@@ -217,6 +217,10 @@ module _ (sheet : List ℕ) (m : Memory) (fuel : ℕ) where
 
       pub count-few : count ≤ commandLimit
       count-few = rw (taken .2) (few (taken .0) (fine .decoded))
+
+      -- and the program space holds them
+      pub count-space : 2 * count ≤ length (m .program)
+      count-space = rw (taken .2) (fine .program)
 
       pub execute-accepted : (r : Ran) (l : Lent) (program : List ℤ) → program ≡ loadSpace (decode sheet) (m .program)
           → done r l ≡ loopOf count (room m) program fuel 0 started lentWords

@@ -4,7 +4,7 @@ use mathlib.Core.Bool.{Bool, false}
 use mathlib.Core.List.{List}
 use lib.IntN.{ℤ, pos}
 use lib.ListN.{getD}
-use lib.Dec.{eqb}
+use lib.Dec.{ltb, eqb}
 use Rattle.word.specs.declared.number.Index.{Index}
 use Rattle.word.specs.declared.number.Index.the-variants.{At, Outside}
 use Rattle.word.specs.declared.number.Natural.{Natural}
@@ -12,8 +12,10 @@ use Rattle.word.specs.declared.number.Natural.the-variants.{Of, Negative}
 use Rattle.word.specs.Number.{naturalOf, indexOf}
 use Rattle.word.specs.Wrap.{residue}
 use Rattle.step.specs.declared.Machine.{Machine}
-use Rattle.step.specs.Words.{choose}
+use Rattle.label.specs.Label.{bottom}
+use Rattle.step.specs.Words.{choose, pushed, pushedStack, following}
 use Rattle.step.specs.Lent.{Lent, After}
+use Rattle.plain.specs.declared.run.Chosen.{Chosen}
 use Rattle.plain.specs.declared.run.Ran.{Ran}
 use Rattle.plain.specs.Step.{stepOf}
 
@@ -48,6 +50,34 @@ codeAt program i = residue 64 (getD program (2 * i) (pos 0))
 
 abbrev pub operandAt : List ℤ → ℕ → ℤ
 operandAt program i = getD program (2 * i + 1) (pos 0)
+
+-- the command to be chosen next, the run as far as it, and the stack
+pub record Ready : Type 0 where
+  pub next : Chosen
+  pub stack : List ℤ
+
+abbrev pub ready : Chosen → List ℤ → Ready
+ready n stack = record { next = n; stack = stack }
+
+abbrev pub chosen : Machine → ℕ → ℤ → ℕ → Chosen
+chosen m code operand steps = record { machine = m; code = code; operand = operand; steps = steps }
+
+-- the command at an index; and where that is a Push with room, and a command and an allowance for it follow, that one, with the Push done
+unfoldable pub nextOf : ℕ → ℕ → List ℤ → ℕ → Machine → ℕ → List ℤ → Ready
+nextOf count fuel program i m steps stack =
+    let here = ready (chosen m (codeAt program i) (operandAt program i) steps) stack in
+    let over = following (pushed m) (m .label .0) in
+    choose (eqb (codeAt program i) 5)
+    (choose (ltb (m .depth) 256)
+    (choose (ltb (steps + 1) fuel)
+    (choose (ltb (i + 1) count)
+    (ready
+    (chosen over (codeAt program (i + 1)) (operandAt program (i + 1)) (steps + 1))
+    (pushedStack m stack (pos 0) (operandAt program i) bottom))
+    here)
+    here)
+    here)
+    here
 
 abbrev pub atPlace : Index → ℕ → ℕ → List ℤ → ℕ → Machine → Lent → (Machine → Lent → Done) → Done
 atPlace Outside count room program steps m l go = done (ran m (endOr m count 2) steps) l

@@ -1,13 +1,17 @@
 // One loop over the commands.
+use label::Label;
 use step::Machine;
 use step::Stepped;
+use word::kind::Pc;
 use word::number::Index;
 ghost use mathlib.Core.Path.{_≡_};
-ghost use Prim.Native.Nat.{_≤_};
+ghost use Prim.Native.Nat.{_≤_, _<_, _*_};
+ghost use lib.ListN.{length};
+ghost use Rattle.word.specs.Number.{indexOf};
 ghost use Rattle.step.specs.Words.{started};
 ghost use Rattle.step.specs.Lent.{after, lent};
 ghost use Rattle.plain.specs.Step.{stepOf};
-ghost use Rattle.plain.specs.Loop.{done, endOr, loopOf};
+ghost use Rattle.plain.specs.Loop.{done, endOr, ready, nextOf, loopOf};
 
 // Where a run ended: the machine record, the stop and the steps.
 pub struct Ran {
@@ -73,6 +77,67 @@ pub fn end_or(m: Machine, count: usize, other: u64) -> u64
     }
 }
 
+// Where in a program of so few commands a place stands: one test for below and above.
+fn place_in(pc: Pc, count: usize) -> Index
+    requires { ⌜ count ≤ 4096 ⌝ }
+    ensures { λ r. ⌜ r ≡ indexOf (pc .0) count ⌝ }
+{
+    let bits = word::wrap::to_bits(pc.0);
+    if bits < count as u64 {
+        Index::At(bits as usize)
+    } else {
+        Index::Outside
+    }
+}
+
+// The command to be chosen next, and the run as far as it.
+struct Chosen {
+    machine: Machine,
+    code: u64,
+    operand: i64,
+    steps: u64,
+}
+
+// The command at an index; and where that is a Push with room, and a command and an allowance for it follow, that one, with the Push done.
+fn next(
+    count: usize,
+    fuel: u64,
+    program: &[i64],
+    i: usize,
+    m: Machine,
+    steps: u64,
+    stack: &mut [i64],
+) -> Chosen
+    requires { ⌜ (i < count) × (count ≤ 4096) × (2 * count ≤ length (now program)) × (steps < fuel) ⌝ }
+    ensures { λ r. ⌜ ready r (now (stack .exit)) ≡ nextOf count fuel (now (program .entry)) i m steps (now (stack .entry)) ⌝ }
+{
+    let code = word::wrap::to_bits(program[2 * i]);
+    let operand = program[2 * i + 1];
+    let depth = m.depth;
+    let place = m.label;
+    if code == 5 {
+        if depth < 256 {
+            if steps + 1 < fuel {
+                if i + 1 < count {
+                    let over = m.push(stack, 0, operand, Label::EMPTY);
+                    return Chosen {
+                        machine: over.following(place),
+                        code: word::wrap::to_bits(program[2 * i + 2]),
+                        operand: program[2 * i + 3],
+                        steps: steps + 1,
+                    };
+                }
+            }
+        }
+    }
+    Chosen {
+        machine: m,
+        code,
+        operand,
+        steps,
+    }
+}
+
 // Runs a loaded program of `count` commands from the start, for at most `fuel` steps.
 pub(crate) fn go(
     count: usize,
@@ -85,7 +150,7 @@ pub(crate) fn go(
     numbers: &mut [i64],
     marks: &mut [i64],
 ) -> Ran
-    requires { ⌜ count ≤ 4096 ⌝ }
+    requires { ⌜ (count ≤ 4096) × (2 * count ≤ length (now program)) ⌝ }
     ensures { λ r. ⌜ done r (lent (now (stack .exit)) (now (values .exit)) (now (labels .exit)) (now (numbers .exit)) (now (marks .exit)))
         ≡ loopOf count room (now (program .entry)) fuel 0 started
         (lent (now (stack .entry)) (now (values .entry)) (now (labels .entry)) (now (numbers .entry)) (now (marks .entry))) ⌝ }
@@ -93,16 +158,16 @@ pub(crate) fn go(
     let mut m = Machine::start();
     let mut steps: u64 = 0;
     while steps < fuel {
-        let place = m.pc.index(count);
+        let place = place_in(m.pc, count);
         match place {
             Index::At(i) => {
-                let code = word::wrap::to_bits(word::memory::at(program, 2 * i));
-                let operand = word::memory::at(program, 2 * i + 1);
+                let n = next(count, fuel, program, i, m, steps, stack);
+                steps = n.steps;
                 let r = act(
                     room,
-                    code,
-                    operand,
-                    m,
+                    n.code,
+                    n.operand,
+                    n.machine,
                     stack,
                     values,
                     labels,

@@ -1,13 +1,17 @@
 -- `plain::execute` meets its contract: refused, nothing is written; accepted, the loop's run is the machine's.
 -- Assumes nothing.
 use native.Mathlib.Omega.{arith}
-use mathlib.Core.Path.{_∙_, sym, ap}
+use mathlib.Core.Path.{_≡_, _∙_, sym, ap}
+use Prim.Native.Nat.{ℕ}
 use denote.Ref.{now}
+use Rattle.program.specs.declared.Checked.the-variants as Checked
+use Rattle.program.specs.Decode.{checkAnswer}
+use Rattle.program.proofs.Encoding.{Bytes}
 use Rattle.step.specs.Words.{started}
 use Rattle.step.specs.Lent.{lent}
 use Rattle.plain.specs.Loop.{loopOf}
 use Rattle.plain.specs.Plain.{Memory, memory}
-use Rattle.plain.proofs.Accepted.{count-few, execute-refused, execute-accepted}
+use Rattle.plain.proofs.Accepted.{answer, count-few, count-space, execute-refused, execute-accepted}
 use borrow.Author.Needs.{needs}
 use Rattle.plain.proofs.execute.Statement.{statement}
 use Rattle.plain.proofs.execute.Tie as tie
@@ -15,7 +19,22 @@ use Rattle.plain.proofs.execute.Tie as tie
 -- the lent runs as they came
 abbrev lentMemory : tie.Start → Memory
 lentMemory s =
-    memory (now (s .args .values)) (now (s .args .labels)) (now (s .args .program)) (now (s .args .stack)) (now (s .args .numbers)) (now (s .args .marks))
+    memory (now (s .args .values)) (now (s .args .labels)) (now (s .args .program)) (now (s .args .stack)) (now (s .args .numbers))
+    (now (s .args .marks))
+
+-- the sheet is accepted
+module _ (k : tie.After-checked2) where
+  abbrev start : tie.Start
+  start = k .before .before .before .before .before
+
+  abbrev count : ℕ
+  count = k .checked2 .given .0 .0
+
+  bytes : Bytes (now (start .args .sheet))
+  bytes i = omega (arith, k .before .before .before .before .shared-slice-known .given i)
+
+  checked : Checked.Accepted count ≡ checkAnswer (answer (now (start .args .sheet)) (lentMemory start) (start .args .fuel))
+  checked = sym (k .checked2 .given .1) ∙ k .before .before .check .ensures
 
 check-requires : tie.Need-check-requires
 check-requires c κs = search needs
@@ -34,10 +53,11 @@ smaller-requires c κs = search needs
 
 go-requires : tie.Need-go-requires
 go-requires c κs =
-    let k = c .before .before .before .before .before .before .before .before .before .before .before in
-    let s = k .before .before .before .before .before in
-    count-few (now (s .args .sheet)) (lentMemory s) (s .args .fuel) (λ i. omega (arith, k .before .before .before .before .shared-slice-known .given i))
-    (k .checked2 .given .0 .0) (sym (k .checked2 .given .1) ∙ k .before .before .check .ensures)
+    let load = c .before .before .before .before .before .before .before .before in
+    let k = load .before .before .before in
+    let few = count-few _ (lentMemory (start k)) _ (bytes k) (count k) (checked k) in
+    let space = count-space _ (lentMemory (start k)) _ (bytes k) (count k) (checked k) in
+    (few, omega (arith, space, load .load .kept .1 .0))
 
 same-length : tie.Need-same-length
 same-length c = search needs
@@ -72,15 +92,14 @@ returns-2 c =
     let small = g .before .before .before .before .before .before .before in
     let load = small .before .before in
     let k = load .before .before .before in
-    let s = k .before .before .before .before .before in
-    execute-accepted (now (s .args .sheet)) (lentMemory s) (s .args .fuel) (λ i. omega (arith, k .before .before .before .before .shared-slice-known .given i))
-    (k .checked2 .given .0 .0) (sym (k .checked2 .given .1) ∙ k .before .before .check .ensures)
-    (g .go .result)
-    (lent (g .go .last .1 .1 .1 .1 .0) (g .go .last .1 .1 .1 .1 .1 .0) (g .go .last .1 .1 .1 .1 .1 .1 .0) (g .go .last .1 .1 .1 .1 .1 .1 .1 .0) (g .go .last .1 .1 .1 .1 .1 .1 .1 .1 .0))
-    (load .load .last .1 .0) (load .load .ensures .1)
+    let s = start k in
+    let x = g .go .last .1 .1 .1 .1 in
+    execute-accepted (now (s .args .sheet)) (lentMemory s) (s .args .fuel) (bytes k) (count k) (checked k)
+    (g .go .result) (lent (x .0) (x .1 .0) (x .1 .1 .0) (x .1 .1 .1 .0) (x .1 .1 .1 .1 .0)) (load .load .last .1 .0) (load .load .ensures .1)
     (g .go .ensures
-    ∙ ap (λ n. loopOf (k .checked2 .given .0 .0) n (load .load .last .1 .0) (s .args .fuel) 0 started
-    (lent (now (s .args .stack)) (now (s .args .values)) (now (s .args .labels)) (now (s .args .numbers)) (now (s .args .marks)))) (small .smaller .ensures))
+    ∙ ap (λ n. loopOf (count k) n (load .load .last .1 .0) (s .args .fuel) 0 started
+    (lent (now (s .args .stack)) (now (s .args .values)) (now (s .args .labels)) (now (s .args .numbers)) (now (s .args .marks))))
+    (small .smaller .ensures))
 
 pub execute-spec : {M : Type 1} → statement M
 execute-spec =
