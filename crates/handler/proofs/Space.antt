@@ -1,15 +1,15 @@
 -- The handler space: as long as two words an instruction, and its words give the instructions back.
 -- Assumes nothing.
 use mathlib.Core.Path.{_≡_, refl, sym, ap, fun-ext}
-use mathlib.Core.Bool.{Bool, true, false}
+use mathlib.Core.Bool.{Bool, true, false, _&&_}
 use mathlib.Core.List.{List, [], _∷_, _++_}
 use mathlib.Core.Option.{none, some}
 use Prim.Native.Nat.{ℕ, zero, suc, _+_, _*_, _<_, _≤_}
 use native.Mathlib.Omega.{arith}
 use lib.IntN.{ℤ, pos}
-use lib.ListN.{length, getElem?}
+use lib.ListN.{length, getElem?, length-append}
 use lib.Dec.{ltb}
-use borrow.Author.Tests.{ltb-true, ltb-false}
+use borrow.Author.Tests.{ltb-true, ltb-false, lt-ltb}
 use Rattle.word.specs.Lay.{laid}
 use Rattle.handler.specs.Kernel.{Instruction, Add, Sub, Or, Load, Store, Dup, Swap, Jump, Ret, Push, Bnz}
 use Rattle.handler.specs.Kernel.{Code, run, handle, start}
@@ -61,11 +61,19 @@ element-outside [] i h = refl
 element-outside (a ∷ code) zero h = absurd (omega arith)
 element-outside (a ∷ code) (suc i) h = element-outside code i (omega arith)
 
+-- both words of each of its instructions are there
+laid-long : (code : List Instruction) (old : List ℤ) → 2 * length code ≤ length (laid (kernelWords code) old)
+unfolding laid
+laid-long code old = rw length-append (omega (arith, kernelWords-length code))
+
 held-laid : (code : List Instruction) (old : List ℤ) (i : ℕ) → held (laid (kernelWords code) old) (length code) i ≡ getElem? code i
 held-laid code old i = by (ltb i (length code)) refl
   where
-    by : (b : Bool) → ltb i (length code) ≡ b → heldIf b (instructionAt (laid (kernelWords code) old) i) ≡ getElem? code i
-    by true e = instructionAt-laid code old i (ltb-true i (length code) e)
+    by : (b : Bool) → ltb i (length code) ≡ b
+        → heldIf (b && ltb (2 * i + 1) (length (laid (kernelWords code) old))) (instructionAt (laid (kernelWords code) old) i) ≡ getElem? code i
+    by true e =
+        let h = ltb-true i (length code) e in
+        rw (lt-ltb (2 * i + 1) (length (laid (kernelWords code) old)) (omega (arith, laid-long code old))) (instructionAt-laid code old i h)
     by false e = sym (element-outside code i (ltb-false i (length code) e))
 
 -- and runs as it does

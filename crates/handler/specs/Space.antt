@@ -1,10 +1,10 @@
 -- The handler space: two words an instruction, its code and its operand or 0.
 use Prim.Native.Nat.{ℕ, _+_, _*_}
-use mathlib.Core.Bool.{Bool, true, false}
+use mathlib.Core.Bool.{Bool, true, false, _&&_}
 use mathlib.Core.List.{List, [], _∷_}
 use mathlib.Core.Option.{Option, none, some}
 use lib.IntN.{ℤ, pos, negsuc}
-use lib.ListN.{getD}
+use lib.ListN.{length, getD}
 use lib.Dec.{ltb}
 use Rattle.handler.specs.Kernel.{Instruction, Add, Sub, Or, Load, Store, Dup, Swap, Jump, Ret, Push, Bnz}
 use Rattle.handler.specs.Kernel.{Code, Result, run, start}
@@ -56,13 +56,13 @@ known (negsuc code) n = none
 abbrev pub instructionAt : List ℤ → ℕ → Option Instruction
 instructionAt space i = known (getD space (2 * i) (pos 0)) (getD space (2 * i + 1) (pos 0))
 
--- the instructions of a space that holds `count` of them
+-- the instructions of a space that holds `count` of them: one is there if both of its words are
 abbrev pub heldIf : Bool → Option Instruction → Option Instruction
 heldIf true o = o
 heldIf false o = none
 
 abbrev pub held : List ℤ → ℕ → Code
-held space count i = heldIf (ltb i count) (instructionAt space i)
+held space count i = heldIf (ltb i count && ltb (2 * i + 1) (length space)) (instructionAt space i)
 
 -- running the handler that a space holds
 unfoldable pub handleSpace : List ℤ → ℕ → List ℤ → Result

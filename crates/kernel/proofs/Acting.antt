@@ -4,30 +4,30 @@ use mathlib.Core.Path.{_≡_, refl, sym, ap, ap₂, _∙_}
 use mathlib.Core.Bool.{Bool, true, false, cond}
 use mathlib.Core.List.{List, [], _∷_}
 use mathlib.Core.Option.{Option, none, some}
-use Prim.Native.Nat.{ℕ, zero, suc, _+_, _-_, _<_, _≤_}
+use Prim.Native.Nat.{ℕ, zero, suc, _+_, _-_, _%_, _^_, _<_, _≤_}
+use native.Mathlib.Nat.{mod-eq-of-lt}
 use native.Mathlib.Omega.{arith}
 use lib.IntN.{ℤ, pos, negsuc, _+ℤ_}
 use lib.ListN.{length, getD, set, getElem?, length-set, List·getD-eq-default}
 use lib.Seq.{set-out}
-use Prim.Native.Nat.{_^_}
 use mir.Syntax.{w64}
 use mir.Val.{SFits}
 use lib.Dec.{ltb, eqb, eqb·suc-zero}
-use borrow.Author.Tests.{lt-ltb, le-ltb, eq-eqb, ne-eqb, ltb-true, ltb-false, eqb-true, eqb-false}
+use borrow.Author.Tests.{lt-ltb, le-ltb, ltb-true, ltb-false, eqb-true, eqb-false}
 use Rattle.word.specs.declared.number.Index.{Index}
 use Rattle.word.specs.declared.number.Index.the-variants as Index
 use Rattle.word.specs.Number.{indexIf, indexOf}
-use Rattle.word.specs.Wrap.{addWrap, subWrap}
+use Rattle.word.specs.Wrap.{residue, addWrap, subWrap}
+use Rattle.word.proofs.Bits.{index-found}
 use Rattle.machine.specs.Step.{branch}
 use Rattle.kernel.specs.declared.Whole.the-variants as Whole
 use Rattle.kernel.specs.declared.How.the-variants as How
 use Rattle.kernel.specs.declared.Stepped.{Stepped}
 use Rattle.handler.specs.Kernel.{Instruction, Add, Sub, Or, Load, Store, Dup, Swap, Jump, Ret, Push, Bnz}
-use Rattle.handler.specs.Kernel.{Effect, ends, goes, returned, denied, failed, withValue, withValues, withWord, withElement, provided, pushing, jumping, effect, orWord}
+use Rattle.handler.specs.Kernel.{Effect, ends, goes, failed, withValues, withWord, provided, pushing, jumping, effect, orWord}
 use Rattle.handler.specs.Space.{known, byCode}
-use Rattle.kernel.specs.Words.{stackOf, wholeOf, ending, going, effectBy, effectOf, DoesOn, Does, Acts, actOf, choose, folding, combined}
-use Rattle.kernel.specs.Words.{jumpBy, jumpingTo, branchBy, branching}
-use Rattle.kernel.proofs.Words.{stack-length, stack-above, stack-push, value-one, value-none, values-two, values-none}
+use Rattle.kernel.specs.Words.{stackOf, wholeOf, ending, going, effectOf, DoesOn, Does, Acts, choose, folding, combined, jumpingTo, branching}
+use Rattle.kernel.proofs.Words.{stack-length, stack-push, value-one, value-none, values-two, values-none}
 
 -- ════════════════════════════════════════════════════════════════════════════════════════════
 -- Going on
@@ -68,7 +68,8 @@ module _ (place d : ℕ) (st : List ℤ) where
   fold-none code st′ h row e = sym (folding-effect code place (stackOf st d) row ∙ values-none st d _ h)
 
   pub fold-done : (code : ℕ) → 2 ≤ d → d ≤ 64 → length st ≡ 64
-      → Does (folding code) place d st (going (place + 1) (d - 1)) (set st (d - 2) (combined code (getD st (d - 1) (pos 0)) (getD st (d - 2) (pos 0))))
+      → Does (folding code) place d st (going (place + 1) (d - 1))
+      (set st (d - 2) (combined code (getD st (d - 1) (pos 0)) (getD st (d - 2) (pos 0))))
   unfolding Does DoesOn
   fold-done code h l g row e =
       going-next place (d - 1) _ row _ e (stack-at st (d - 1) (d - 2) _ (omega arith) (omega arith))
@@ -125,15 +126,7 @@ element-none (a ∷ row) (suc i) h = element-none row i (omega arith)
 -- an address in the row, and one outside
 word-in : (row : List ℤ) (z : ℤ) (i : ℕ) (k : ℕ → ℤ → Effect) → length row ≡ 7 → indexOf z 7 ≡ Index.At i
     → withWord row z k ≡ k i (getD row i (pos 0))
-unfolding indexOf
-word-in row (pos n) i k h e = by (ltb n 7) refl e
-  where
-    by : (b : Bool) → ltb n 7 ≡ b → indexIf b n ≡ Index.At i → withWord row (pos n) k ≡ k i (getD row i (pos 0))
-    by true t f =
-        let q : n ≡ i = cc in
-        rw (element-at row n (omega (arith, ltb-true n 7 t)), q)
-    by false t f = absurd (let x : _≡_ {A = ℕ} 0 1 = cc in omega arith)
-word-in row (negsuc n) i k h e = absurd (let x : _≡_ {A = ℕ} 0 1 = cc in omega arith)
+word-in row z i k h e = let q = index-found z 7 i e in rw (q .0, element-at row i (omega (arith, q .1)))
 
 word-out : (row : List ℤ) (z : ℤ) (k : ℕ → ℤ → Effect) → length row ≡ 7 → indexOf z 7 ≡ Index.Outside → withWord row z k ≡ ends failed
 unfolding indexOf
@@ -248,11 +241,13 @@ module _ (place d : ℕ) (st : List ℤ) where
         bnz-target (pos 0) (pos (place + 1)) (going (place + 1) (d - 1)) row h (whole-at _ n w ∙ ap pos q) refl
         (going-effect (place + 1) (d - 1) st row e ∙ rw (lt-ltb place (place + 1) (omega arith)))
 
-    pub bnz-at : (n : ℕ) → 1 ≤ d → wholeOf (getD st (d - 1) (pos 0)) ≡ Whole.At n → (n ≡ 0 → ⊥) → Does (Bnz z) place d st (branching z place (d - 1)) st
+    pub bnz-at : (n : ℕ) → 1 ≤ d → wholeOf (getD st (d - 1) (pos 0)) ≡ Whole.At n → (n ≡ 0 → ⊥)
+        → Does (Bnz z) place d st (branching z place (d - 1)) st
     unfolding Does DoesOn
     bnz-at zero h w q row e = absurd (q refl)
     bnz-at (suc n) h w q row e =
-        bnz-target (pos (suc n)) (pos place +ℤ z) (branching z place (d - 1)) row h (whole-at _ (suc n) w) refl (branch-effect place (d - 1) st row e z)
+        bnz-target (pos (suc n)) (pos place +ℤ z) (branching z place (d - 1)) row h (whole-at _ (suc n) w) refl
+        (branch-effect place (d - 1) st row e z)
 
     pub bnz-below : (n : ℕ) → 1 ≤ d → wholeOf (getD st (d - 1) (pos 0)) ≡ Whole.Below n → Does (Bnz z) place d st (branching z place (d - 1)) st
     unfolding Does DoesOn
@@ -286,6 +281,18 @@ none-known (suc (suc (suc (suc (suc code))))) n h g = absurd (omega arith)
 pub past-known : (code : ℕ) (n : ℤ) → 15 ≤ code → known (pos code) n ≡ none
 unfolding known
 past-known code n h = List·getD-eq-default (byCode n) none h
+
+-- a word's bits: those of a negative code are past all codes
+pub residue-known : (code n : ℤ) → SFits w64 code → known (pos (residue 64 code)) n ≡ known code n
+unfolding known residue
+residue-known (pos code) n f =
+    let h = f .sfits in
+    let e : code % 2 ^ 64 ≡ code = mod-eq-of-lt (omega arith) in
+    rw e
+residue-known (negsuc code) n f =
+    let h = f .sfits in
+    let e : code % 2 ^ 64 ≡ code = mod-eq-of-lt (omega arith) in
+    rw e (past-known (2 ^ 64 - suc code) n (omega arith))
 
 module _ (row : List ℤ) (o : Option Instruction) (place d : ℕ) (st st′ : List ℤ) (r : Stepped) where
   pub acts-on : (i : Instruction) → o ≡ some i → DoesOn row i place d st r st′ → Acts row o place d st r st′

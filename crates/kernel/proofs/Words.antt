@@ -1,21 +1,18 @@
 -- The kernel on words: the stack that lies in a run of words, and the effects of instructions on it.
 -- Assumes nothing.
-use mathlib.Core.Path.{_≡_, refl, sym, ap, ap₂, _∙_}
-use mathlib.Core.Bool.{Bool, true, false}
-use mathlib.Core.List.{List, [], _∷_}
-use mathlib.Core.Option.{Option, none, some}
+use mathlib.Core.Path.{_≡_, refl, ap, ap₂}
+use mathlib.Core.Bool.{true, false}
+use mathlib.Core.List.{List, _∷_}
 use Prim.Native.Nat.{ℕ, zero, suc, _+_, _-_, _<_, _≤_}
 use native.Mathlib.Omega.{arith}
 use lib.IntN.{ℤ, pos, negsuc}
-use lib.ListN.{length, getD, set, getElem?}
-use lib.Seq.{getD-set-same, getD-set-other, set-out}
+use lib.ListN.{length, getD, set}
+use lib.Seq.{getD-set-same, getD-set-other}
 use lib.IntN.{natAbs}
 use lib.Signed.{ltZ, mag}
-use lib.Dec.{ltb}
-use borrow.Author.Tests.{ltb-true, ltb-false, lt-ltb, le-ltb}
-use Prim.Native.Nat.{_*_}
+use borrow.Author.Tests.{ltb-true}
 use Rattle.kernel.specs.declared.Whole.the-variants.{At, Below}
-use Rattle.handler.specs.Kernel.{Effect, ends, goes, failed, withValue, withValues}
+use Rattle.handler.specs.Kernel.{Effect, ends, failed, withValue, withValues}
 use Rattle.kernel.specs.Words.{stackOf, wholeOf}
 
 pub stack-length : (st : List ℤ) (d : ℕ) → length (stackOf st d) ≡ d
@@ -76,11 +73,3 @@ whole-negative (negsuc n) e = refl
 pub whole-natural : (z : ℤ) → ltZ z (pos 0) ≡ false → At (natAbs z) ≡ wholeOf z
 whole-natural (pos n) e = refl
 whole-natural (negsuc n) e = cc
-
--- a test of the double without forming it
-pub half-ltb : (i n : ℕ) → i < n → ltb i (n - i) ≡ ltb (2 * i) n
-half-ltb i n h = by (ltb i (n - i)) refl
-  where
-    by : (b : Bool) → ltb i (n - i) ≡ b → b ≡ ltb (2 * i) n
-    by true e = sym (lt-ltb (2 * i) n (omega (arith, ltb-true i (n - i) e)))
-    by false e = sym (le-ltb (2 * i) n (omega (arith, ltb-false i (n - i) e)))

@@ -1,7 +1,7 @@
 -- The kernel on words, as the code has it: the stack lies in a run of words, bottom first, and an instruction hands back a record.
-use Prim.Native.Nat.{ℕ, zero, suc, _+_}
+use Prim.Native.Nat.{ℕ, zero, suc, _+_, _*_}
 use mathlib.Core.Path.{_≡_}
-use mathlib.Core.Bool.{Bool, true, false}
+use mathlib.Core.Bool.{Bool, true, false, _&&_}
 use mathlib.Core.List.{List, [], _∷_}
 use mathlib.Core.Option.{Option, none, some}
 use lib.IntN.{ℤ, pos, negsuc}
@@ -16,8 +16,9 @@ use Rattle.kernel.specs.declared.Stepped.{Stepped}
 use Rattle.kernel.specs.declared.Outcome as Ended
 use Rattle.kernel.specs.declared.Outcome.the-variants as End
 use Rattle.kernel.specs.declared.Handled.{Handled}
+use Rattle.kernel.specs.declared.Finished.{Finished}
 use Rattle.handler.specs.Kernel.{Instruction, Add, Sub, Or, Outcome, returned, denied, failed, orWord}
-use Rattle.handler.specs.Kernel.{Effect, ends, goes, effect, effectAt, Kernel, Result}
+use Rattle.handler.specs.Kernel.{Effect, ends, goes, effect, Result}
 
 -- the entries of a stack of so many, top first
 unfoldable pub stackOf : List ℤ → ℕ → List ℤ
@@ -103,6 +104,17 @@ abbrev pub outcomeOf : Ended.Outcome → Outcome
 outcomeOf End.Returned = returned
 outcomeOf End.Denied = denied
 outcomeOf End.Failed = failed
+
+-- of the places below a count, those below a limit have both of their words
+unfoldable pub Held : (words count limit : ℕ) → Type 0
+Held words count limit = (place : ℕ) → ltb place limit ≡ (ltb place count && ltb (2 * place + 1) words)
+
+-- a run's end and its steps, with the row beside them
+abbrev pub finishing : Ended.Outcome → ℕ → Finished
+finishing outcome steps = record { outcome = outcome; steps = steps }
+
+abbrev pub leftBy : Finished → List ℤ → Result
+leftBy r row = record { outcome = outcomeOf (r .outcome); row = row; steps = r .steps }
 
 abbrev pub resultOf : Handled → Result
 resultOf r = record { outcome = outcomeOf (r .outcome); row = r .cache .words; steps = r .steps }

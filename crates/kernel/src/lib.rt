@@ -2,18 +2,16 @@
 // specs/Space.antt of `handler` first: `handle` is its `handleSpace`. specs/Words.antt says how the code's words stand for the kernel's
 // stack and effects.
 use policy::row::Cache;
-use word::memory::at;
 use word::memory::put;
 use word::number::Index;
 ghost use mathlib.Core.Path.{_≡_};
-ghost use Prim.Native.Nat.{_≤_, _<_, _*_, _^_};
-ghost use mathlib.Core.Bool.{_&&_};
+ghost use Prim.Native.Nat.{_≤_, _<_, _^_};
 ghost use lib.IntN.{pos};
 ghost use lib.ListN.{length};
-ghost use lib.Dec.{ltb};
-ghost use Rattle.handler.specs.Kernel.{orWord, Instruction, Load, Store, Dup, Swap, Jump, Push, Bnz};
+ghost use Rattle.handler.specs.Kernel.{orWord, Load, Store, Dup, Swap, Jump, Push, Bnz};
 ghost use Rattle.handler.specs.Space.{known, handleSpace};
-ghost use Rattle.kernel.specs.Words.{wholeOf, ending, going, combined, folding, jumpingTo, branching, Does, DoesOn, Acts, resultOf};
+ghost use Rattle.kernel.specs.Words.{wholeOf, ending, going, combined, folding, jumpingTo, branching, Does, DoesOn, Acts};
+ghost use Rattle.kernel.specs.Words.{Held, finishing, leftBy, resultOf};
 
 // How a handler ended: by Ret, by the jump to -1, or by leaving its rules.
 pub enum Outcome {
@@ -27,6 +25,12 @@ pub struct Handled {
     pub outcome: Outcome,
     pub cache: Cache,
     pub steps: u64,
+}
+
+// A run's end and its kernel steps; the rule memory is in its place.
+struct Finished {
+    outcome: Outcome,
+    steps: u64,
 }
 
 // A word as a natural number n, or as -1 - n.
@@ -113,9 +117,9 @@ fn fold(code: u64, place: u64, depth: usize, stack: &mut [i64]) -> Stepped
     if depth < 2 {
         return ended(How::Failed);
     }
-    let a = at(stack, depth - 1);
-    let b = at(stack, depth - 2);
-    put(stack, depth - 2, combine(code, a, b));
+    let a = stack[depth - 1];
+    let b = stack[depth - 2];
+    stack[depth - 2] = combine(code, a, b);
     gone(place + 1, depth - 1)
 }
 
@@ -124,7 +128,7 @@ fn push(word: i64, place: u64, depth: usize, stack: &mut [i64]) -> Stepped
     ensures { λ r. ⌜ Does (Push word) place depth (now (stack .entry)) r (now (stack .exit)) ⌝ }
 {
     if depth < 64 {
-        put(stack, depth, word);
+        stack[depth] = word;
         return gone(place + 1, depth + 1);
     }
     ended(How::Failed)
@@ -137,7 +141,7 @@ fn dup(place: u64, depth: usize, stack: &mut [i64]) -> Stepped
     if depth < 1 {
         return ended(How::Failed);
     }
-    let a = at(stack, depth - 1);
+    let a = stack[depth - 1];
     push(a, place, depth, stack)
 }
 
@@ -148,24 +152,24 @@ fn swap(place: u64, depth: usize, stack: &mut [i64]) -> Stepped
     if depth < 2 {
         return ended(How::Failed);
     }
-    let a = at(stack, depth - 1);
-    let b = at(stack, depth - 2);
-    put(stack, depth - 2, a);
-    put(stack, depth - 1, b);
+    let a = stack[depth - 1];
+    let b = stack[depth - 2];
+    stack[depth - 2] = a;
+    stack[depth - 1] = b;
     gone(place + 1, depth)
 }
 
-fn load(place: u64, depth: usize, stack: &mut [i64], cache: Cache) -> Stepped
-    requires { ⌜ (place < 2 ^ 63) × (depth ≤ 64) × (length (now stack) ≡ 64) × (length (cache .words) ≡ 7) ⌝ }
-    ensures { λ r. ⌜ DoesOn (cache .words) Load place depth (now (stack .entry)) r (now (stack .exit)) ⌝ }
+fn load(place: u64, depth: usize, stack: &mut [i64], row: &[i64]) -> Stepped
+    requires { ⌜ (place < 2 ^ 63) × (depth ≤ 64) × (length (now stack) ≡ 64) × (length (now row) ≡ 7) ⌝ }
+    ensures { λ r. ⌜ DoesOn (now (row .entry)) Load place depth (now (stack .entry)) r (now (stack .exit)) ⌝ }
 {
     if depth < 1 {
         return ended(How::Failed);
     }
-    let address = word::number::below(at(stack, depth - 1), 7);
+    let address = word::number::below(stack[depth - 1], 7);
     match address {
         Index::At(i) => {
-            put(stack, depth - 1, cache.get(i));
+            stack[depth - 1] = row[i];
             gone(place + 1, depth)
         }
         Index::Outside => ended(How::Failed),
@@ -173,14 +177,14 @@ fn load(place: u64, depth: usize, stack: &mut [i64], cache: Cache) -> Stepped
 }
 
 fn store(place: u64, depth: usize, stack: &[i64]) -> Stepped
-    requires { ⌜ place < 2 ^ 63 ⌝ }
+    requires { ⌜ (place < 2 ^ 63) × (depth ≤ 64) × (length (now stack) ≡ 64) ⌝ }
     ensures { λ r. ⌜ Does Store place depth (now (stack .entry)) r (now (stack .entry)) ⌝ }
 {
     if depth < 2 {
         return ended(How::Failed);
     }
-    let b = at(stack, depth - 2);
-    let address = word::number::below(at(stack, depth - 1), 7);
+    let b = stack[depth - 2];
+    let address = word::number::below(stack[depth - 1], 7);
     match address {
         Index::At(i) => Stepped {
             how: How::Goes,
@@ -217,12 +221,13 @@ fn jump_to(target: i64, place: u64, depth: usize) -> Stepped
 }
 
 fn jump(place: u64, depth: usize, stack: &[i64]) -> Stepped
+    requires { ⌜ (depth ≤ 64) × (length (now stack) ≡ 64) ⌝ }
     ensures { λ r. ⌜ Does Jump place depth (now (stack .entry)) r (now (stack .entry)) ⌝ }
 {
     if depth < 1 {
         return ended(How::Failed);
     }
-    jump_to(at(stack, depth - 1), place, depth - 1)
+    jump_to(stack[depth - 1], place, depth - 1)
 }
 
 // A branch that is taken goes forward, or by place + 1 back to -1.
@@ -250,13 +255,13 @@ fn branch(operand: i64, place: u64, depth: usize) -> Stepped
 }
 
 fn bnz(operand: i64, place: u64, depth: usize, stack: &[i64]) -> Stepped
-    requires { ⌜ place < 2 ^ 63 ⌝ }
+    requires { ⌜ (place < 2 ^ 63) × (depth ≤ 64) × (length (now stack) ≡ 64) ⌝ }
     ensures { λ r. ⌜ Does (Bnz operand) place depth (now (stack .entry)) r (now (stack .entry)) ⌝ }
 {
     if depth < 1 {
         return ended(How::Failed);
     }
-    let tested = sized(at(stack, depth - 1));
+    let tested = sized(stack[depth - 1]);
     match tested {
         Whole::At(n) => {
             if n == 0 {
@@ -276,10 +281,10 @@ fn choose(
     place: u64,
     depth: usize,
     stack: &mut [i64],
-    cache: Cache,
+    row: &[i64],
 ) -> Stepped
-    requires { ⌜ (place < 2 ^ 63) × (depth ≤ 64) × (length (now stack) ≡ 64) × (length (cache .words) ≡ 7) ⌝ }
-    ensures { λ r. ⌜ Acts (cache .words) (known (pos code) operand) place depth (now (stack .entry)) r (now (stack .exit)) ⌝ }
+    requires { ⌜ (place < 2 ^ 63) × (depth ≤ 64) × (length (now stack) ≡ 64) × (length (now row) ≡ 7) ⌝ }
+    ensures { λ r. ⌜ Acts (now (row .entry)) (known (pos code) operand) place depth (now (stack .entry)) r (now (stack .exit)) ⌝ }
 {
     if code < 7 {
         if code < 3 {
@@ -292,7 +297,7 @@ fn choose(
             return push(operand, place, depth, stack);
         }
         if code == 6 {
-            return load(place, depth, stack, cache);
+            return load(place, depth, stack, row);
         }
         return ended(How::Failed);
     }
@@ -324,97 +329,58 @@ fn choose(
 }
 
 // The instruction that two words stand for.
-fn act(
-    code: i64,
-    operand: i64,
-    place: u64,
-    depth: usize,
-    stack: &mut [i64],
-    cache: Cache,
-) -> Stepped
-    requires { ⌜ (place < 2 ^ 63) × (depth ≤ 64) × (length (now stack) ≡ 64) × (length (cache .words) ≡ 7) ⌝ }
-    ensures { λ r. ⌜ Acts (cache .words) (known code operand) place depth (now (stack .entry)) r (now (stack .exit)) ⌝ }
+fn act(code: i64, operand: i64, place: u64, depth: usize, stack: &mut [i64], row: &[i64]) -> Stepped
+    requires { ⌜ (place < 2 ^ 63) × (depth ≤ 64) × (length (now stack) ≡ 64) × (length (now row) ≡ 7) ⌝ }
+    ensures { λ r. ⌜ Acts (now (row .entry)) (known code operand) place depth (now (stack .entry)) r (now (stack .exit)) ⌝ }
 {
-    let number = sized(code);
-    match number {
-        Whole::At(n) => choose(n, operand, place, depth, stack, cache),
-        Whole::Below(_) => ended(How::Failed),
+    choose(word::wrap::to_bits(code), operand, place, depth, stack, row)
+}
+
+// How many instructions, of so many, a space of so many words holds: each takes two.
+fn held(words: usize, count: usize) -> u64
+    ensures { λ r. ⌜ Held words count r ⌝ }
+{
+    let pairs = words / 2;
+    if pairs < count {
+        pairs as u64
+    } else {
+        count as u64
     }
 }
 
-// Is there an instruction at the place, of so many, in a space of so many words? The product is not formed: it may not fit.
-fn inside(words: usize, count: usize, place: u64) -> bool
-    ensures { λ r. ⌜ r ≡ (ltb place count && ltb (2 * place) words) ⌝ }
+fn finish(outcome: Outcome, steps: u64) -> Finished
+    ensures { λ r. ⌜ r ≡ finishing outcome steps ⌝ }
 {
-    let size = words as u64;
-    if place < count as u64 {
-        if place < size {
-            return place < size - place;
-        }
-    }
-    false
+    Finished { outcome, steps }
 }
 
-// Runs the handler on a stack of 64 words, which is empty, whatever the words.
-fn go(space: &[i64], count: usize, stack: &mut [i64], memory: Cache) -> Handled
-    requires { ⌜ (length (now stack) ≡ 64) × (length (memory .words) ≡ 7) ⌝ }
-    ensures { λ r. ⌜ resultOf r ≡ handleSpace (now (space .entry)) count (memory .words) ⌝ }
+// Runs the handler on a stack of 64 words, which is empty, over the seven words of the rule memory, whatever the words. Every instruction
+// goes forward, so that the place alone bounds the run.
+fn go(space: &[i64], count: usize, stack: &mut [i64], row: &mut [i64]) -> Finished
+    requires { ⌜ (length (now stack) ≡ 64) × (length (now row) ≡ 7) ⌝ }
+    ensures { λ r. ⌜ leftBy r (now (row .exit)) ≡ handleSpace (now (space .entry)) count (now (row .entry)) ⌝ }
 {
-    let fuel = count as u64;
-    let mut cache = memory;
+    let limit = held(space.len(), count);
     let mut place: u64 = 0;
     let mut depth: usize = 0;
     let mut steps: u64 = 0;
-    while steps < fuel {
-        if inside(space.len(), count, place) {
-            let i = place as usize;
-            let code = at(space, 2 * i);
-            let operand = at(space, 2 * i + 1);
-            let r = act(code, operand, place, depth, stack, cache);
-            let how = r.how;
-            match how {
-                How::Goes => {
-                    let word = r.word;
-                    cache = cache.set(r.address, word);
-                    place = r.place;
-                    depth = r.depth;
-                    steps += 1;
-                }
-                How::Returned => {
-                    return Handled {
-                        outcome: Outcome::Returned,
-                        cache,
-                        steps: steps + 1,
-                    };
-                }
-                How::Denied => {
-                    return Handled {
-                        outcome: Outcome::Denied,
-                        cache,
-                        steps: steps + 1,
-                    };
-                }
-                How::Failed => {
-                    return Handled {
-                        outcome: Outcome::Failed,
-                        cache,
-                        steps,
-                    };
-                }
+    while place < limit {
+        let i = place as usize;
+        let r = act(space[2 * i], space[2 * i + 1], place, depth, stack, row);
+        let how = r.how;
+        match how {
+            How::Goes => {
+                put(row, r.address, r.word);
+                place = r.place;
+                depth = r.depth;
+                steps += 1;
             }
-        } else {
-            return Handled {
-                outcome: Outcome::Failed,
-                cache,
-                steps,
-            };
+            How::Returned => return finish(Outcome::Returned, steps + 1),
+            How::Denied => return finish(Outcome::Denied, steps + 1),
+            How::Failed => return finish(Outcome::Failed, steps),
         }
     }
-    Handled {
-        outcome: Outcome::Failed,
-        cache,
-        steps,
-    }
+    finish(Outcome::Failed, steps)
 }
 
 // Runs the handler of `count` instructions that a space holds, on the rule memory.
@@ -422,5 +388,13 @@ pub fn handle(space: &[i64], count: usize, cache: Cache) -> Handled
     ensures { λ r. ⌜ resultOf r ≡ handleSpace (now (space .entry)) count (cache .words) ⌝ }
 {
     let mut stack = [0i64; 64];
-    go(space, count, &mut stack, cache)
+    let mut row = cache.words;
+    let r = go(space, count, &mut stack, &mut row);
+    let outcome = r.outcome;
+    let steps = r.steps;
+    Handled {
+        outcome,
+        cache: Cache { words: row },
+        steps,
+    }
 }

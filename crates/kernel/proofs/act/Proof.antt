@@ -1,28 +1,16 @@
 -- `kernel::act` meets its contract.
 -- Assumes nothing.
-use mathlib.Core.Path.{sym, _∙_, ap}
 use Rattle.word.proofs.Signed.{back}
-use lib.IntN.{ℤ}
-use Rattle.handler.specs.Space.{known}
-use Rattle.kernel.proofs.Acting.{whole-at, whole-below, acts-none}
+use Rattle.kernel.proofs.Acting.{residue-known}
 use borrow.Author.Needs.{needs}
 use Rattle.kernel.proofs.act.Statement.{statement}
 use Rattle.kernel.proofs.act.Tie as tie
 
-sized-requires : tie.Need-sized-requires
-sized-requires c κs = search needs
-
-enum-known-number : tie.Need-enum-known-number
-enum-known-number c = search needs
+to-bits-requires : tie.Need-to-bits-requires
+to-bits-requires c κs = search needs
 
 choose-requires : tie.Need-choose-requires
 choose-requires c κs = search needs
-
-enum-told : tie.Need-enum-told
-enum-told c = search needs
-
-ended-requires : tie.Need-ended-requires
-ended-requires c κs = search needs
 
 same-length : tie.Need-same-length
 same-length c = search needs
@@ -30,31 +18,12 @@ same-length c = search needs
 returns : tie.Need-returns
 returns c =
     let at-choose = c .before in
-    let at-number = at-choose .before .before .before in
-    let at-sized = at-number .before .before in
-    let start = at-sized .before in
-    rw (whole-at (start .args .code) _ (sym (rw (back {z = start .args .code} (start .fits .code)) at (at-sized .sized .ensures)) ∙ at-number .number .given .1))
-    (rw (back {z = start .args .operand} (start .fits .operand)) at (at-choose .choose .ensures))
-
-returns-2 : tie.Need-returns-2
-unfolding known
-returns-2 c =
-    let at-told = c .before in
-    let at-sized = at-told .before .before in
-    let start = at-sized .before in
-    acts-none _ _ _ _ _ _ _
-    (ap (λ (z : ℤ). known z (start .args .operand)) (whole-below (start .args .code) _ (sym (rw (back {z = start .args .code} (start .fits .code)) at (at-sized .sized .ensures)) ∙ at-told .enum-told .given .1)))
-    (c .ended .ensures)
+    let at-bits = at-choose .before .before in
+    let start = at-bits .before in
+    let code = start .args .code in
+    let n = start .args .operand in
+    rw (at-bits .to-bits .ensures, back {z = code} (start .fits .code), back {z = n} (start .fits .operand), residue-known code n (start .fits .code))
+    at (at-choose .choose .ensures)
 
 pub act-spec : {M : Type 1} → statement M
-act-spec =
-    tie.close
-    (tie.spec
-    sized-requires
-    enum-known-number
-    choose-requires
-    enum-told
-    ended-requires
-    same-length
-    returns
-    returns-2)
+act-spec = tie.close (tie.spec to-bits-requires choose-requires same-length returns)

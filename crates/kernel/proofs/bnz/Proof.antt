@@ -13,8 +13,11 @@ ended-requires c κs = search needs
 returns : tie.Need-returns
 returns c = rw (c .ended .ensures) (bnz-none _ _ _ _ _ (c .before .if1 .taken))
 
-at-requires : tie.Need-at-requires
-at-requires c κs = search needs
+mul-sized : tie.Need-mul-sized
+mul-sized c = search needs
+
+shared-slice-copy-out-sized : tie.Need-shared-slice-copy-out-sized
+shared-slice-copy-out-sized c = search needs
 
 sized-requires : tie.Need-sized-requires
 sized-requires c κs = search needs
@@ -41,31 +44,29 @@ returns-2 : tie.Need-returns-2
 returns-2 c =
     let at-tested = c .before .before .before in
     let at-sized = at-tested .before .before in
-    let at-at = at-sized .before in
-    let at-if1 = at-at .before in
-    let start = at-if1 .before in
-    let w = sym (rw (back-ok (at-at .at .result) (at-at .at .ok), at-at .at .ensures) at (at-sized .sized .ensures)) ∙ at-tested .tested .given .1 in
-    rw (c .gone .ensures) (bnz-zero _ _ _ _ _ (at-if1 .if1 .left) w (c .before .if2 .taken))
+    let at-arg = at-sized .before in
+    let w = sym (rw (back-ok _ (at-arg .sized-arg .given)) at (at-sized .sized .ensures)) ∙ at-tested .tested .given .1 in
+    rw (c .gone .ensures) (bnz-zero _ _ _ _ _ (at-arg .before .if1 .left) w (c .before .if2 .taken))
 
 returns-3 : tie.Need-returns-3
 returns-3 c =
     let at-tested = c .before .before .before in
     let at-sized = at-tested .before .before in
-    let at-at = at-sized .before in
-    let at-if1 = at-at .before in
-    let start = at-if1 .before in
-    let w = sym (rw (back-ok (at-at .at .result) (at-at .at .ok), at-at .at .ensures) at (at-sized .sized .ensures)) ∙ at-tested .tested .given .1 in
-    rw (c .branch .ensures, back {z = start .args .operand} (start .fits .operand)) (bnz-at _ _ _ (start .args .operand) _ (at-if1 .if1 .left) w (c .before .if2 .left))
+    let at-arg = at-sized .before in
+    let start = at-arg .before .before in
+    let w = sym (rw (back-ok _ (at-arg .sized-arg .given)) at (at-sized .sized .ensures)) ∙ at-tested .tested .given .1 in
+    rw (c .branch .ensures, back {z = start .args .operand} (start .fits .operand))
+    (bnz-at _ _ _ (start .args .operand) _ (at-arg .before .if1 .left) w (c .before .if2 .left))
 
 returns-4 : tie.Need-returns-4
 returns-4 c =
     let at-tested = c .before in
     let at-sized = at-tested .before .before in
-    let at-at = at-sized .before in
-    let at-if1 = at-at .before in
-    let start = at-if1 .before in
-    let w = sym (rw (back-ok (at-at .at .result) (at-at .at .ok), at-at .at .ensures) at (at-sized .sized .ensures)) ∙ at-tested .enum-told .given .1 in
-    rw (c .branch2 .ensures, back {z = start .args .operand} (start .fits .operand)) (bnz-below _ _ _ (start .args .operand) _ (at-if1 .if1 .left) w)
+    let at-arg = at-sized .before in
+    let start = at-arg .before .before in
+    let w = sym (rw (back-ok _ (at-arg .sized-arg .given)) at (at-sized .sized .ensures)) ∙ at-tested .enum-told .given .1 in
+    rw (c .branch2 .ensures, back {z = start .args .operand} (start .fits .operand))
+    (bnz-below _ _ _ (start .args .operand) _ (at-arg .before .if1 .left) w)
 
 pub bnz-spec : {M : Type 1} → statement M
 bnz-spec =
@@ -73,7 +74,8 @@ bnz-spec =
     (tie.spec
     ended-requires
     returns
-    at-requires
+    mul-sized
+    shared-slice-copy-out-sized
     sized-requires
     enum-known-tested
     add-gone

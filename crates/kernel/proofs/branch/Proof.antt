@@ -1,13 +1,18 @@
 -- `kernel::branch` meets its contract.
 -- Assumes nothing.
 use borrow.Author.Tests.{lt-ltb, le-ltb, eq-eqb, ne-eqb}
-use mathlib.Core.Path.{sym, _∙_}
+use mathlib.Core.Path.{_≡_, sym, _∙_}
+use Rattle.kernel.specs.Words.{wholeOf}
 use Rattle.kernel.proofs.Acting.{whole-small}
 use native.Mathlib.Omega.{arith}
-use Rattle.word.proofs.Signed.{back, back-ok}
+use Rattle.word.proofs.Signed.{back}
 use borrow.Author.Needs.{needs}
 use Rattle.kernel.proofs.branch.Statement.{statement}
 use Rattle.kernel.proofs.branch.Tie as tie
+
+-- the size of the operand
+sized-as : (a : tie.After-sized) → a .sized .result ≡ wholeOf (a .before .args .operand)
+sized-as a = rw (back {z = a .before .args .operand} (a .before .fits .operand)) at (a .sized .ensures)
 
 sized-requires : tie.Need-sized-requires
 sized-requires c κs = search needs
@@ -18,15 +23,8 @@ enum-known-distance c = search needs
 add-gone : tie.Need-add-gone
 add-gone c =
     let at-sized = c .before .before .before .before in
-    let f = at-sized .before .fits .operand in
-    record {
-      fits =
-          omega (
-            arith,
-            at-sized .before .pre,
-            whole-small _ _ f (sym (rw (back {z = at-sized .before .args .operand} f) at (at-sized .sized .ensures)) ∙ c .before .before .distance .given .1),
-          );
-    }
+    let small = whole-small _ _ (at-sized .before .fits .operand) (sym (sized-as at-sized) ∙ c .before .before .distance .given .1) in
+    record { fits = omega (arith, at-sized .before .pre) }
 
 gone-requires : tie.Need-gone-requires
 gone-requires c κs = search needs
@@ -45,23 +43,23 @@ ended-requires-3 c κs = search needs
 
 returns : tie.Need-returns
 returns c =
-    let at-sized = c .before .before .before .before .before in
-    rw (← (rw (back {z = at-sized .before .args .operand} (at-sized .before .fits .operand)) at (at-sized .sized .ensures)), c .before .before .before .distance .given .1, lt-ltb _ _ (c .before .if1 .taken), c .gone .ensures)
+    let at-distance = c .before .before .before in
+    rw (← sized-as (at-distance .before .before), at-distance .distance .given .1, lt-ltb _ _ (c .before .if1 .taken), c .gone .ensures)
 
 returns-2 : tie.Need-returns-2
 returns-2 c =
-    let at-sized = c .before .before .before .before .before in
-    rw (← (rw (back {z = at-sized .before .args .operand} (at-sized .before .fits .operand)) at (at-sized .sized .ensures)), c .before .before .before .distance .given .1, le-ltb _ _ (c .before .if1 .left), c .ended .ensures)
+    let at-distance = c .before .before .before in
+    rw (← sized-as (at-distance .before .before), at-distance .distance .given .1, le-ltb _ _ (c .before .if1 .left), c .ended .ensures)
 
 returns-3 : tie.Need-returns-3
 returns-3 c =
-    let at-sized = c .before .before .before .before .before in
-    rw (← (rw (back {z = at-sized .before .args .operand} (at-sized .before .fits .operand)) at (at-sized .sized .ensures)), c .before .before .before .distance2 .given .1, eq-eqb _ _ (c .before .if2 .taken), c .ended2 .ensures)
+    let at-distance = c .before .before .before in
+    rw (← sized-as (at-distance .before .before), at-distance .distance2 .given .1, eq-eqb _ _ (c .before .if2 .taken), c .ended2 .ensures)
 
 returns-4 : tie.Need-returns-4
 returns-4 c =
-    let at-sized = c .before .before .before .before .before in
-    rw (← (rw (back {z = at-sized .before .args .operand} (at-sized .before .fits .operand)) at (at-sized .sized .ensures)), c .before .before .before .distance2 .given .1, ne-eqb _ _ (c .before .if2 .left), c .ended3 .ensures)
+    let at-distance = c .before .before .before in
+    rw (← sized-as (at-distance .before .before), at-distance .distance2 .given .1, ne-eqb _ _ (c .before .if2 .left), c .ended3 .ensures)
 
 pub branch-spec : {M : Type 1} → statement M
 branch-spec =

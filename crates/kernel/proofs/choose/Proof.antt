@@ -5,6 +5,7 @@ use Prim.Native.Nat.{ℕ}
 use native.Mathlib.Omega.{arith}
 use lib.IntN.{pos}
 use lib.ListN.{length}
+use denote.Ref.{now}
 use Rattle.word.proofs.Signed.{back}
 use Rattle.handler.specs.Kernel.{Load, Store, Dup, Swap, Jump, Push, Bnz}
 use Rattle.handler.specs.Space.{known}
@@ -40,7 +41,7 @@ returns-2 c =
     let at-if1 = at-if2 .before in
     let start = at-if1 .before in
     let n = start .args .operand in
-    let l : length (start .args .cache .words) ≡ 7 = start .pre .3 in
+    let l : length (now (start .args .row)) ≡ 7 = start .pre .3 in
     acts _ _ _ _ _ _ _ _ l (fold-known (start .args .code) n (at-if3 .if3 .left) (at-if2 .if2 .taken)) (c .before .fold .ensures)
 
 push-requires : tie.Need-push-requires
@@ -57,8 +58,9 @@ returns-3 c =
     let at-if1 = at-if2 .before in
     let start = at-if1 .before in
     let n = start .args .operand in
-    let l : length (start .args .cache .words) ≡ 7 = start .pre .3 in
-    acts _ _ _ _ _ _ _ (Push n) l (ap (λ (k : ℕ). known (pos k) n) (at-if4 .if4 .taken)) (rw (back {z = n} (start .fits .operand)) at (c .before .push .ensures))
+    let l : length (now (start .args .row)) ≡ 7 = start .pre .3 in
+    acts _ _ _ _ _ _ _ (Push n) l (ap (λ (k : ℕ). known (pos k) n) (at-if4 .if4 .taken))
+    (rw (back {z = n} (start .fits .operand)) at (c .before .push .ensures))
 
 load-requires : tie.Need-load-requires
 load-requires c κs = search needs
@@ -89,7 +91,9 @@ returns-5 c =
     let at-if1 = at-if2 .before in
     let start = at-if1 .before in
     let n = start .args .operand in
-    acts-none _ _ _ _ _ _ _ (none-known (start .args .code) n (at-if2 .if2 .left) (omega (arith, at-if1 .if1 .taken, at-if4 .if4 .left, at-if5 .if5 .left))) (c .ended2 .ensures)
+    acts-none _ _ _ _ _ _ _
+    (none-known (start .args .code) n (at-if2 .if2 .left) (omega (arith, at-if1 .if1 .taken, at-if4 .if4 .left, at-if5 .if5 .left)))
+    (c .ended2 .ensures)
 
 store-requires : tie.Need-store-requires
 store-requires c κs = search needs
@@ -105,7 +109,7 @@ returns-6 c =
     let at-if1 = at-if6 .before in
     let start = at-if1 .before in
     let n = start .args .operand in
-    let l : length (start .args .cache .words) ≡ 7 = start .pre .3 in
+    let l : length (now (start .args .row)) ≡ 7 = start .pre .3 in
     acts _ _ _ _ _ _ _ Store l (ap (λ (k : ℕ). known (pos k) n) (at-if7 .if7 .taken)) (c .store .ensures)
 
 jump-requires : tie.Need-jump-requires
@@ -123,7 +127,7 @@ returns-7 c =
     let at-if1 = at-if6 .before in
     let start = at-if1 .before in
     let n = start .args .operand in
-    let l : length (start .args .cache .words) ≡ 7 = start .pre .3 in
+    let l : length (now (start .args .row)) ≡ 7 = start .pre .3 in
     acts _ _ _ _ _ _ _ Jump l (ap (λ (k : ℕ). known (pos k) n) (at-if8 .if8 .taken)) (c .jump .ensures)
 
 bnz-requires : tie.Need-bnz-requires
@@ -141,7 +145,7 @@ returns-8 c =
     let at-if1 = at-if6 .before in
     let start = at-if1 .before in
     let n = start .args .operand in
-    let l : length (start .args .cache .words) ≡ 7 = start .pre .3 in
+    let l : length (now (start .args .row)) ≡ 7 = start .pre .3 in
     let e : start .args .code ≡ 9 = omega (arith, at-if1 .if1 .left, at-if6 .if6 .taken, at-if7 .if7 .left, at-if8 .if8 .left) in
     acts _ _ _ _ _ _ _ (Bnz n) l (ap (λ (k : ℕ). known (pos k) n) (e)) (rw (back {z = n} (start .fits .operand)) at (c .bnz .ensures))
 
@@ -190,7 +194,7 @@ returns-11 c =
     let at-if1 = at-if6 .before in
     let start = at-if1 .before in
     let n = start .args .operand in
-    let l : length (start .args .cache .words) ≡ 7 = start .pre .3 in
+    let l : length (now (start .args .row)) ≡ 7 = start .pre .3 in
     let e : start .args .code ≡ 12 = omega (arith, at-if6 .if6 .left, at-if9 .if9 .taken, at-if10 .if10 .left, at-if11 .if11 .left) in
     acts _ _ _ _ _ _ _ _ l (or-known (start .args .code) n e) (c .before .fold2 .ensures)
 
@@ -209,7 +213,7 @@ returns-12 c =
     let at-if1 = at-if6 .before in
     let start = at-if1 .before in
     let n = start .args .operand in
-    let l : length (start .args .cache .words) ≡ 7 = start .pre .3 in
+    let l : length (now (start .args .row)) ≡ 7 = start .pre .3 in
     acts _ _ _ _ _ _ _ Dup l (ap (λ (k : ℕ). known (pos k) n) (at-if12 .if12 .taken)) (c .before .dup .ensures)
 
 swap-requires : tie.Need-swap-requires
@@ -228,7 +232,7 @@ returns-13 c =
     let at-if1 = at-if6 .before in
     let start = at-if1 .before in
     let n = start .args .operand in
-    let l : length (start .args .cache .words) ≡ 7 = start .pre .3 in
+    let l : length (now (start .args .row)) ≡ 7 = start .pre .3 in
     acts _ _ _ _ _ _ _ Swap l (ap (λ (k : ℕ). known (pos k) n) (at-if13 .if13 .taken)) (c .before .swap .ensures)
 
 ended-requires-5 : tie.Need-ended-requires-5
@@ -244,7 +248,8 @@ returns-14 c =
     let at-if1 = at-if6 .before in
     let start = at-if1 .before in
     let n = start .args .operand in
-    acts-none _ _ _ _ _ _ _ (past-known (start .args .code) n (omega (arith, at-if9 .if9 .left, at-if12 .if12 .left, at-if13 .if13 .left))) (c .ended5 .ensures)
+    acts-none _ _ _ _ _ _ _
+    (past-known (start .args .code) n (omega (arith, at-if9 .if9 .left, at-if12 .if12 .left, at-if13 .if13 .left))) (c .ended5 .ensures)
 
 pub choose-spec : {M : Type 1} → statement M
 choose-spec =

@@ -1,6 +1,6 @@
 -- `kernel::combine` meets its contract.
 -- Assumes nothing.
-use borrow.Author.Tests.{lt-ltb, le-ltb, eq-eqb, ne-eqb}
+use borrow.Author.Tests.{eq-eqb, ne-eqb}
 use Rattle.word.proofs.Signed.{back, back-ok}
 use borrow.Author.Needs.{needs}
 use Rattle.kernel.proofs.combine.Statement.{statement}

@@ -1,6 +1,6 @@
 -- `kernel::jump` meets its contract.
 -- Assumes nothing.
-use Rattle.word.proofs.Signed.{back, back-ok}
+use Rattle.word.proofs.Signed.{back-ok}
 use Rattle.kernel.proofs.Acting.{jump-done, jump-none}
 use borrow.Author.Needs.{needs}
 use Rattle.kernel.proofs.jump.Statement.{statement}
@@ -12,18 +12,27 @@ ended-requires c κs = search needs
 returns : tie.Need-returns
 returns c = rw (c .ended .ensures) (jump-none _ _ _ _ (c .before .if1 .taken))
 
-at-requires : tie.Need-at-requires
-at-requires c κs = search needs
+mul-jump-to : tie.Need-mul-jump-to
+mul-jump-to c = search needs
+
+shared-slice-copy-out-jump-to : tie.Need-shared-slice-copy-out-jump-to
+shared-slice-copy-out-jump-to c = search needs
 
 jump-to-requires : tie.Need-jump-to-requires
 jump-to-requires c κs = search needs
 
 returns-2 : tie.Need-returns-2
 returns-2 c =
-    let at-at = c .before in
-    let at-if1 = at-at .before in
-    rw (c .jump-to .ensures, back-ok (at-at .at .result) (at-at .at .ok), at-at .at .ensures)
-    (jump-done _ _ _ (at-if1 .if1 .left))
+    let at-arg = c .before in
+    rw (c .jump-to .ensures, back-ok _ (at-arg .jump-to-arg .given)) (jump-done _ _ _ (at-arg .before .if1 .left))
 
 pub jump-spec : {M : Type 1} → statement M
-jump-spec = tie.close (tie.spec ended-requires returns at-requires jump-to-requires returns-2)
+jump-spec =
+    tie.close
+    (tie.spec
+    ended-requires
+    returns
+    mul-jump-to
+    shared-slice-copy-out-jump-to
+    jump-to-requires
+    returns-2)

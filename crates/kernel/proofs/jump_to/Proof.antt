@@ -1,11 +1,16 @@
 -- `kernel::jump_to` meets its contract.
 -- Assumes nothing.
 use borrow.Author.Tests.{lt-ltb, le-ltb, eq-eqb, ne-eqb}
-use native.Mathlib.Omega.{arith}
-use Rattle.word.proofs.Signed.{back, back-ok}
+use mathlib.Core.Path.{_≡_}
+use Rattle.word.proofs.Signed.{back}
+use Rattle.kernel.specs.Words.{wholeOf}
 use borrow.Author.Needs.{needs}
 use Rattle.kernel.proofs.jump_to.Statement.{statement}
 use Rattle.kernel.proofs.jump_to.Tie as tie
+
+-- the size of the target
+sized-as : (a : tie.After-sized) → a .sized .result ≡ wholeOf (a .before .args .target)
+sized-as a = rw (back {z = a .before .args .target} (a .before .fits .target)) at (a .sized .ensures)
 
 sized-requires : tie.Need-sized-requires
 sized-requires c κs = search needs
@@ -30,23 +35,23 @@ ended-requires-3 c κs = search needs
 
 returns : tie.Need-returns
 returns c =
-    let at-sized = c .before .before .before .before .before in
-    rw (← (rw (back {z = at-sized .before .args .target} (at-sized .before .fits .target)) at (at-sized .sized .ensures)), c .before .before .before .to .given .1, lt-ltb _ _ (c .before .if1 .taken), c .gone .ensures)
+    let at-to = c .before .before .before in
+    rw (← sized-as (at-to .before .before), at-to .to .given .1, lt-ltb _ _ (c .before .if1 .taken), c .gone .ensures)
 
 returns-2 : tie.Need-returns-2
 returns-2 c =
-    let at-sized = c .before .before .before .before .before in
-    rw (← (rw (back {z = at-sized .before .args .target} (at-sized .before .fits .target)) at (at-sized .sized .ensures)), c .before .before .before .to .given .1, le-ltb _ _ (c .before .if1 .left), c .ended .ensures)
+    let at-to = c .before .before .before in
+    rw (← sized-as (at-to .before .before), at-to .to .given .1, le-ltb _ _ (c .before .if1 .left), c .ended .ensures)
 
 returns-3 : tie.Need-returns-3
 returns-3 c =
-    let at-sized = c .before .before .before .before .before in
-    rw (← (rw (back {z = at-sized .before .args .target} (at-sized .before .fits .target)) at (at-sized .sized .ensures)), c .before .before .before .to2 .given .1, eq-eqb _ _ (c .before .if2 .taken), c .ended2 .ensures)
+    let at-to = c .before .before .before in
+    rw (← sized-as (at-to .before .before), at-to .to2 .given .1, eq-eqb _ _ (c .before .if2 .taken), c .ended2 .ensures)
 
 returns-4 : tie.Need-returns-4
 returns-4 c =
-    let at-sized = c .before .before .before .before .before in
-    rw (← (rw (back {z = at-sized .before .args .target} (at-sized .before .fits .target)) at (at-sized .sized .ensures)), c .before .before .before .to2 .given .1, ne-eqb _ _ (c .before .if2 .left), c .ended3 .ensures)
+    let at-to = c .before .before .before in
+    rw (← sized-as (at-to .before .before), at-to .to2 .given .1, ne-eqb _ _ (c .before .if2 .left), c .ended3 .ensures)
 
 pub jump-to-spec : {M : Type 1} → statement M
 jump-to-spec =

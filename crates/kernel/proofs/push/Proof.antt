@@ -1,13 +1,16 @@
 -- `kernel::push` meets its contract.
 -- Assumes nothing.
-use Rattle.word.proofs.Signed.{back, back-ok}
+use Rattle.word.proofs.Signed.{back}
 use Rattle.kernel.proofs.Acting.{push-done, push-full}
 use borrow.Author.Needs.{needs}
 use Rattle.kernel.proofs.push.Statement.{statement}
 use Rattle.kernel.proofs.push.Tie as tie
 
-put-requires : tie.Need-put-requires
-put-requires c κs = search needs
+mul-word : tie.Need-mul-word
+mul-word c = search needs
+
+slice-set-from-word : tie.Need-slice-set-from-word
+slice-set-from-word c = search needs
 
 add-gone : tie.Need-add-gone
 add-gone c = search needs
@@ -23,10 +26,9 @@ same-length c = search needs
 
 returns : tie.Need-returns
 returns c =
-    let at-put = c .before .before in
-    let at-if1 = at-put .before .before in
+    let at-if1 = c .before in
     let start = at-if1 .before in
-    rw (c .gone .ensures, at-put .put .ensures, back {z = start .args .word} (start .fits .word))
+    rw (c .gone .ensures, back {z = start .args .word} (start .fits .word))
     (push-done _ _ _ _ (at-if1 .if1 .taken) (start .pre .2))
 
 ended-requires : tie.Need-ended-requires
@@ -39,7 +41,8 @@ pub push-spec : {M : Type 1} → statement M
 push-spec =
     tie.close
     (tie.spec
-    put-requires
+    mul-word
+    slice-set-from-word
     add-gone
     add-gone-2
     gone-requires

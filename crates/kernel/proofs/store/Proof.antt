@@ -1,8 +1,7 @@
 -- `kernel::store` meets its contract.
 -- Assumes nothing.
-use mathlib.Core.Path.{_≡_, sym, _∙_}
-use lib.ListN.{length}
-use Rattle.word.proofs.Signed.{back, back-ok}
+use mathlib.Core.Path.{sym, _∙_}
+use Rattle.word.proofs.Signed.{back-ok}
 use Rattle.kernel.proofs.Acting.{store-done, store-none, store-out}
 use borrow.Author.Needs.{needs}
 use Rattle.kernel.proofs.store.Statement.{statement}
@@ -14,14 +13,20 @@ ended-requires c κs = search needs
 returns : tie.Need-returns
 returns c = rw (c .ended .ensures) (store-none _ _ _ _ (c .before .if1 .taken))
 
-at-requires : tie.Need-at-requires
-at-requires c κs = search needs
+mul-b : tie.Need-mul-b
+mul-b c = search needs
 
-sub-at : tie.Need-sub-at
-sub-at c = search needs
+shared-slice-copy-out-b : tie.Need-shared-slice-copy-out-b
+shared-slice-copy-out-b c = search needs
 
-at-requires-2 : tie.Need-at-requires-2
-at-requires-2 c κs = search needs
+sub-below : tie.Need-sub-below
+sub-below c = search needs
+
+mul-below : tie.Need-mul-below
+mul-below c = search needs
+
+shared-slice-copy-out-below : tie.Need-shared-slice-copy-out-below
+shared-slice-copy-out-below c = search needs
 
 below-requires : tie.Need-below-requires
 below-requires c κs = search needs
@@ -29,8 +34,8 @@ below-requires c κs = search needs
 enum-known-address : tie.Need-enum-known-address
 enum-known-address c = search needs
 
-add-t13 : tie.Need-add-t13
-add-t13 c = search needs
+add-t16 : tie.Need-add-t16
+add-t16 c = search needs
 
 enum-told : tie.Need-enum-told
 enum-told c = search needs
@@ -42,23 +47,20 @@ returns-2 : tie.Need-returns-2
 returns-2 c =
     let at-address = c .before in
     let at-below = at-address .before .before in
-    let at-at2 = at-below .before in
-    let at-at = at-at2 .before in
-    let at-if1 = at-at .before in
-    rw (back-ok (at-at .at .result) (at-at .at .ok), at-at .at .ensures)
-    (store-done _ _ _ _ (at-if1 .if1 .left)
-    (sym (rw (back-ok (at-at2 .at2 .result) (at-at2 .at2 .ok), at-at2 .at2 .ensures) at (at-below .below .ensures)) ∙ at-address .address .given .1))
+    let at-arg = at-below .before in
+    let at-b = at-arg .before in
+    rw (back-ok _ (at-b .b .given))
+    (store-done _ _ _ _ (at-b .before .if1 .left)
+    (sym (rw (back-ok _ (at-arg .below-arg .given)) at (at-below .below .ensures)) ∙ at-address .address .given .1))
 
 returns-3 : tie.Need-returns-3
 returns-3 c =
     let at-told = c .before in
     let at-below = at-told .before .before in
-    let at-at2 = at-below .before in
-    let at-at = at-at2 .before in
-    let at-if1 = at-at .before in
+    let at-arg = at-below .before in
     rw (c .ended2 .ensures)
-    (store-out _ _ _ _ (at-if1 .if1 .left)
-    (sym (rw (back-ok (at-at2 .at2 .result) (at-at2 .at2 .ok), at-at2 .at2 .ensures) at (at-below .below .ensures)) ∙ at-told .enum-told .given .1))
+    (store-out _ _ _ _ (at-arg .before .before .if1 .left)
+    (sym (rw (back-ok _ (at-arg .below-arg .given)) at (at-below .below .ensures)) ∙ at-told .enum-told .given .1))
 
 pub store-spec : {M : Type 1} → statement M
 store-spec =
@@ -66,12 +68,14 @@ store-spec =
     (tie.spec
     ended-requires
     returns
-    at-requires
-    sub-at
-    at-requires-2
+    mul-b
+    shared-slice-copy-out-b
+    sub-below
+    mul-below
+    shared-slice-copy-out-below
     below-requires
     enum-known-address
-    add-t13
+    add-t16
     enum-told
     ended-requires-2
     returns-2
