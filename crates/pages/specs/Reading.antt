@@ -18,7 +18,7 @@ use Rattle.tagged.specs.Start.{rowLimit}
 use Rattle.tagged.specs.Tagged.{Ended, tagged}
 use Rattle.demands.specs.Privacy.{linesIn}
 use Rattle.report.specs.Page.{zeros, pageOf}
-use Rattle.report.specs.Reading.{jobR1, lineSeven, lineTwelve}
+use Rattle.pages.specs.Job.{jobR1, lineSeven, lineTwelve}
 
 -- ════════════════════════════════════════════════════════════════════════════════════════════
 -- What is asked, and what is answered

@@ -2,4 +2,3 @@ pub mod Job
 pub mod Lines
 pub mod Written
 pub mod Page
-pub mod Reading

@@ -18,7 +18,8 @@ use Rattle.step.specs.Lent.{Lent, lent, outcome, after}
 use Rattle.handler.specs.Kernel.{Result}
 use Rattle.handler.specs.Space.{handleSpace}
 use Rattle.handler.proofs.Effect.{handleSpace-steps}
-use Rattle.plain.proofs.Going.{SameLengths, index-below}
+use Rattle.word.proofs.Bits.{index-found}
+use Rattle.plain.proofs.Going.{SameLengths}
 use Rattle.tagging.specs.Consult.{Tag, tag}
 use Rattle.tagged.specs.Loop.{Acted, added, actOf, ranWith, doneOf}
 use Rattle.tagged.proofs.Going.{Few, act-few, Going, going-start, going-end, going-outside, going-stopped, going-on}
@@ -133,16 +134,16 @@ enum-known-place : tie.Need-enum-known-place Inv-loop μ-loop
 enum-known-place c = search needs
 
 mul-at : tie.Need-mul-at Inv-loop μ-loop
-mul-at c = record { fits = omega (arith, index-below _ _ _ (sym (c .before .before .before .index .ensures) ∙ c .before .place .given .1), c .before .before .before .before .before .before .before .pre .0) }
+mul-at c = record { fits = omega (arith, index-found _ _ _ (sym (c .before .before .before .index .ensures) ∙ c .before .place .given .1) .1, c .before .before .before .before .before .before .before .pre .0) }
 
 at-requires : tie.Need-at-requires Inv-loop μ-loop
 at-requires c κs = search needs
 
 mul-at-2 : tie.Need-mul-at-2 Inv-loop μ-loop
-mul-at-2 c = record { fits = omega (arith, index-below _ _ _ (sym (c .before .before .before .before .index .ensures) ∙ c .before .before .place .given .1), c .before .before .before .before .before .before .before .before .pre .0) }
+mul-at-2 c = record { fits = omega (arith, index-found _ _ _ (sym (c .before .before .before .before .index .ensures) ∙ c .before .before .place .given .1) .1, c .before .before .before .before .before .before .before .before .pre .0) }
 
 add-at : tie.Need-add-at Inv-loop μ-loop
-add-at c = record { fits = omega (arith, index-below _ _ _ (sym (c .before .before .before .before .index .ensures) ∙ c .before .before .place .given .1), c .before .before .before .before .before .before .before .before .pre .0) }
+add-at c = record { fits = omega (arith, index-found _ _ _ (sym (c .before .before .before .before .index .ensures) ∙ c .before .before .place .given .1) .1, c .before .before .before .before .before .before .before .before .pre .0) }
 
 at-requires-2 : tie.Need-at-requires-2 Inv-loop μ-loop
 at-requires-2 c κs = search needs
