@@ -1,7 +1,7 @@
 /*
  * Prints the page of document 01's first reading, for a reader who is cleared for owner 0.
  *
- *     cc -I include examples/embed.c target/staticlib/libNAME.a -o embed
+ *     cc -I include examples/embed.c target/staticlib/libexports.a -o embed
  */
 #include <luvrodan.h>
 #include <stdio.h>

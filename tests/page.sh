@@ -5,6 +5,7 @@
 #     RUNNER='valgrind -q --error-exitcode=9' bash tests/page.sh
 set -u
 cd "$(dirname "$0")/.." || exit 2
+. tests/page/bytes.sh
 page=target/bin/page
 [ -x "$page" ] || { echo "$page is missing: rt check page" >&2; exit 1; }
 scratch=$(mktemp -d)
@@ -12,25 +13,9 @@ trap 'rm -rf "$scratch"' EXIT
 failed=0
 cases=0
 
-# the bytes of the job of a case, written as C escapes for printf
-bytes() {
-    sed -n 's/^job://p' "$1" | awk '
-        { text = text " " $0 }
-        END {
-            n = split(text, w, " ")
-            for (i = 1; i <= n; i++) {
-                if (w[i] ~ /^[0-9]+\*\($/) { count = w[i] + 0; inside = 1; part = "" }
-                else if (w[i] == ")") { for (k = 0; k < count; k++) printf "%s", part; inside = 0 }
-                else if (inside) part = part "\\x" w[i]
-                else printf "\\x%s", w[i]
-            }
-        }'
-}
-
 for case in tests/page/*.case; do
     cases=$((cases + 1))
-    bytes "$case" > "$scratch/escapes"
-    printf "$(cat "$scratch/escapes")" > "$scratch/job"
+    bytes "$case" > "$scratch/job"
     sed '1,/^page:$/d' "$case" > "$scratch/want"
     if ! ${RUNNER:-} "$page" < "$scratch/job" > "$scratch/got"; then
         echo "$case: page ended with a failure"

@@ -1,4 +1,6 @@
 //! Prints the page of document 01's first reading, for a reader who is cleared for owner 0.
+//!
+//!     LUVRODAN_ARCHIVE=target/staticlib/libexports.a cargo run --offline --release -p luvrodan --example embed
 
 use luvrodan::{page, Atom, Machine, Refusal};
 use std::io::Write;

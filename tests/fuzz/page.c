@@ -1,0 +1,40 @@
+/*
+ * A fuzz target for libFuzzer: any bytes as a job. The page must fit, end a line where it is not empty, and leave every byte beyond it
+ * as it came; a shorter buffer must be left alone.
+ */
+#include <luvrodan.h>
+#include <stdlib.h>
+#include <string.h>
+
+enum { GUARD = 64, UNTOUCHED = 0xa5 };
+
+static void check(int holds)
+{
+    if (!holds)
+        abort();
+}
+
+static void check_untouched(const uint8_t *from, const uint8_t *to)
+{
+    for (; from < to; from++)
+        check(*from == UNTOUCHED);
+}
+
+int LLVMFuzzerTestOneInput(const uint8_t *job, size_t length)
+{
+    static uint8_t page[GUARD + LUVRODAN_PAGE_LIMIT + GUARD];
+    uint8_t *start = page + GUARD;
+    uint8_t *end = page + sizeof page;
+    memset(page, UNTOUCHED, sizeof page);
+
+    luvrodan_page_result made = luvrodan_page(job, length, start, LUVRODAN_PAGE_LIMIT - 1);
+    check(made.status == 1 && made.length == LUVRODAN_PAGE_LIMIT);
+    check_untouched(page, end);
+
+    made = luvrodan_page(job, length, start, LUVRODAN_PAGE_LIMIT);
+    check(made.status == 0 && made.length <= LUVRODAN_PAGE_LIMIT);
+    check(made.length == 0 || start[made.length - 1] == '\n');
+    check_untouched(page, start);
+    check_untouched(start + made.length, end);
+    return 0;
+}
