@@ -10,7 +10,7 @@ use std::hint::black_box;
 use std::io::Write;
 use std::process::{Command, Stdio};
 
-const ROUNDS: usize = 9;
+const ROUNDS: usize = 31;
 const FUEL: u64 = 1_000_000;
 
 #[repr(C)]
@@ -282,6 +282,28 @@ fn print_growth(handler: &[i64], contestants: &[Contestant]) {
     }
 }
 
+/// Microseconds from start to end of a program, the best of many, with a file as its standard input.
+fn process_time(program: &str, input: &str) -> Option<f64> {
+    const STARTS: usize = 300;
+    let mut best = f64::INFINITY;
+    for _ in 0..STARTS {
+        let input = std::fs::File::open(input).ok()?;
+        let began = std::time::Instant::now();
+        Command::new(program).stdin(input).stdout(Stdio::null()).status().ok()?;
+        best = best.min(began.elapsed().as_secs_f64() * 1e6);
+    }
+    Some(best)
+}
+
+fn print_startup() {
+    const JOB: &str = "examples/berth-terminal.job";
+    println!();
+    for program in ["true", "target/bin/page"] {
+        let time = process_time(program, JOB).map_or("not built".into(), |time| format!("{time:.0} µs"));
+        println!("start to end of `{program}` on {JOB}: {time}");
+    }
+}
+
 fn main() {
     let handler = engine::handler();
     let contestants = contestants(&handler);
@@ -289,4 +311,5 @@ fn main() {
     println!("the standard table's handler has {} kernel commands", handler.len() / 2);
     print_speeds(&handler, &contestants);
     print_growth(&handler, &contestants);
+    print_startup();
 }
