@@ -80,7 +80,6 @@ module _ (count room fuel : ℕ) (program : List ℤ) (l₀ : Lent) where
   -- from the command that is chosen, after so many steps or one more
   pub record Acting (l : Lent) (steps : ℕ) (a : Ready) : Type 0 where
     pub since : steps ≤ a .next .steps
-    pub soon : a .next .steps ≤ steps + 1
     pub below : a .next .steps < fuel
     pub left : onward (stepOf room (a .next .code) (a .next .operand) (a .next .machine) (restacked l (a .stack))) (a .next .steps)
         (λ m′ l′. loopOf count room program (fuel - (a .next .steps + 1)) (a .next .steps + 1) m′ l′) ≡ whole
@@ -119,7 +118,7 @@ module _ (count room fuel : ℕ) (program : List ℤ) (l₀ : Lent) where
       -- the command at the place
       going-at : (i : ℕ) → indexOf (m .pc .0) count ≡ At i
           → Acting l steps (ready (chosen m (codeAt program i) (operandAt program i) steps) (l .stack))
-      going-at i e = record { since = omega arith; soon = omega arith; below = h; left = rw e at one }
+      going-at i e = record { since = omega arith; below = h; left = rw e at one }
 
   -- ══════════════════════════════════════════════════════════════════════════════════════════
   -- With a Push carried out before the command that is chosen
@@ -148,7 +147,7 @@ module _ (count room fuel : ℕ) (program : List ℤ) (l₀ : Lent) where
           let on = going-on l steps _ (going-at m l steps g h i e) (outcome over 9) (restacked l stack) push-goes refl in
           let at = ap (λ z. indexOf z count) push-place ∙ index-after (m .pc .0) count i few e (ltb-true (i + 1) count b) in
           let a = going-at over (restacked l stack) (steps + 1) on (ltb-true (steps + 1) fuel f) (i + 1) at in
-          record { since = omega arith; soon = omega arith; below = a .below; left = a .left }
+          record { since = omega arith; below = a .below; left = a .left }
 
     pub going-next : Acting l steps (nextOf count fuel program i m steps (l .stack))
     unfolding nextOf
