@@ -103,8 +103,8 @@ luvrodan_result luvrodan_plain(const uint8_t *sheet, size_t sheet_length,
  * Runs a sheet on the tag engine, under the rules of a table.
  *
  * As luvrodan_plain, and further: table: the rules, operator first. rule_memory: exactly seven words, read at the
- * start and written at the end; seven zeros mean empty. handler: two words a kernel command (codes as on sheets, 0c
- * Or, 0d Dup, 0e Swap), luvrodan_handler_count of them.
+ * start and written at the end; seven zeros mean empty. handler: two words a kernel command (codes as on sheets, 11
+ * Or, 12 Dup, 13 Swap), luvrodan_handler_count of them.
  *
  * Refusals, in this order: 1, 2, 3 (sheet), 4, 5 (cells), 6 (rules), 7 (rule memory), 8 at 1, 2 or 3 (spaces), 9
  * (allowance). A refused call changes no lent word.

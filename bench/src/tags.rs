@@ -70,11 +70,11 @@ fn handle(handler: &[i64], memory: &mut [i64; 7]) -> (bool, u64) {
                 }
             }
             11 => return (true, steps),
-            12 => {
+            0x11 => {
                 depth -= 1;
                 stack[depth - 1] |= stack[depth];
             }
-            13 => {
+            0x12 => {
                 stack[depth] = stack[depth - 1];
                 depth += 1;
             }

@@ -4,32 +4,34 @@ use mathlib.Core.Path.{_≡_, ap, _∙_}
 use mathlib.Core.List.{List}
 use Prim.Native.Nat.{ℕ}
 use lib.IntN.{ℤ}
-use Rattle.plain.specs.declared.Answer.{Answer as PlainAnswer}
-use Rattle.plain.specs.Plain.{Memory, plain}
-use Rattle.plain.specs.Plain as Plain
-use Rattle.tagged.specs.declared.Answer.{Answer as TaggedAnswer}
-use Rattle.tagged.specs.Tagged.{tagged}
-use Rattle.tagged.specs.Tagged as Tagged
+use Rattle.engine.specs.declared.Answer.{Answer}
+use Rattle.engine.specs.Memory.{Memory}
+use Rattle.engine.specs.Ended.{Ended, ended}
+use Rattle.plain.specs.Plain.{plain}
+use Rattle.tagged.specs.declared.Tagged.{Tagged}
+use Rattle.tagged.specs.Tagged.{Left, left, endedBy, tagged}
 use Rattle.exports.specs.declared.result.LuvrodanResult.{LuvrodanResult}
-use Rattle.exports.specs.Result.{plainResult, taggedResult}
+use Rattle.exports.specs.Result.{resultOf}
 use Rattle.exports.specs.Row.{givenRow, leftRow}
-use Rattle.exports.specs.Exported.{PlainLeft, plainLeft, exportedPlain, TaggedLeft, taggedLeft, exportedTagged}
+use Rattle.exports.specs.Exported.{plainLeft, exportedPlain, taggedLeft, exportedTagged}
 
-module _ (sheet : List ℕ) (m : Memory) (fuel : ℕ) (r : LuvrodanResult) (left : Memory) where
-  pub plain-left : (a : PlainAnswer) → r ≡ plainResult a → Plain.ended a left ≡ plain sheet m fuel
-      → plainLeft r left ≡ exportedPlain sheet m fuel
+module _ (sheet : List ℕ) (m : Memory) (fuel : ℕ) (r : LuvrodanResult) (after : Memory) where
+  pub plain-left : (a : Answer) → r ≡ resultOf a 0 0 → ended a tt after ≡ plain sheet m fuel → plainLeft r after ≡ exportedPlain sheet m fuel
   unfolding exportedPlain
   plain-left a e d =
-      ap (λ (x : LuvrodanResult). plainLeft x left) e
-      ∙ ap (λ (x : Plain.Ended). plainLeft (plainResult (x .answer)) (x .memory)) d
+      ap (λ (x : LuvrodanResult). plainLeft x after) e
+      ∙ ap (λ (x : Ended Unit). plainLeft (resultOf (x .answer) 0 0) (x .memory)) d
 
   module _ (bytes : List ℕ) (lent : List ℤ) (handler : List ℤ) where
-    pub tagged-left : (a : TaggedAnswer) (given row after space : List ℤ) → r ≡ taggedResult a → given ≡ givenRow lent → after ≡ leftRow row lent
-        → Tagged.ended a row left space ≡ tagged sheet bytes given m handler fuel
-        → taggedLeft r after left space ≡ exportedTagged sheet bytes lent m handler fuel
+    pub tagged-left : (a : Tagged) (given row space : List ℤ) → r ≡ resultOf (a .answer) (a .faults) (a .kernel)
+        → given ≡ givenRow lent → row ≡ leftRow (a .cache .words) lent
+        → left (endedBy a after) space ≡ tagged sheet bytes given m handler fuel
+        → taggedLeft r row after space ≡ exportedTagged sheet bytes lent m handler fuel
     unfolding exportedTagged
-    tagged-left a given row after space e g l d =
-        ap (λ (x : LuvrodanResult). taggedLeft x after left space) e
-        ∙ ap (λ (x : List ℤ). taggedLeft (taggedResult a) x left space) l
-        ∙ ap (λ (x : Tagged.Ended). taggedLeft (taggedResult (x .answer)) (leftRow (x .row) lent) (x .memory) (x .handler))
+    tagged-left a given row space e g l d =
+        ap (λ (x : LuvrodanResult). taggedLeft x row after space) e
+        ∙ ap (λ (x : List ℤ). taggedLeft (resultOf (a .answer) (a .faults) (a .kernel)) x after space) l
+        ∙ ap (λ (x : Left).
+        taggedLeft (resultOf (x .ended .answer) (x .ended .ruler .faults) (x .ended .ruler .kernelSteps)) (leftRow (x .ended .ruler .row) lent)
+        (x .ended .memory) (x .handler))
         (d ∙ ap (λ (x : List ℤ). tagged sheet bytes x m handler fuel) g)

@@ -1,7 +1,7 @@
 -- The rule memory in lent words: seven words copied one at a time; and what check 7 says where there are not seven.
 -- Assumes nothing.
 use mathlib.Core.Path.{_≡_, refl, sym, ap, subst, _∙_}
-use mathlib.Core.Bool.{Bool, true, false}
+use mathlib.Core.Bool.{Bool, false}
 use mathlib.Core.List.{List}
 use Prim.Native.Nat.{ℕ, _+_, _<_, _≤_}
 use native.Mathlib.Omega.{arith}
@@ -9,7 +9,7 @@ use lib.IntN.{ℤ, pos}
 use lib.ListN.{length, getD, set}
 use lib.Dec.{eqb}
 use borrow.Author.Tests.{eq-eqb}
-use Rattle.step.specs.Words.{choose}
+use Rattle.word.specs.Choose.{choose}
 use Rattle.policy.specs.Read.{ReadTable, refused, table}
 use Rattle.policy.specs.Row.{word, acceptedRow, rowAnswer}
 use Rattle.translator.specs.Emit.{putAll}

@@ -2,14 +2,15 @@
 use Prim.Native.Nat.{ℕ}
 use mathlib.Core.List.{List}
 use lib.IntN.{ℤ}
-use Rattle.plain.specs.Plain.{Memory, plain}
-use Rattle.plain.specs.Plain as Plain
-use Rattle.tagged.specs.Tagged.{tagged}
-use Rattle.tagged.specs.Tagged as Tagged
+use Rattle.engine.specs.Memory.{Memory}
+use Rattle.engine.specs.Ended.{Ended}
+use Rattle.plain.specs.Plain.{plain}
+use Rattle.tagging.specs.Consult.{Tag}
+use Rattle.tagged.specs.Tagged.{Left, tagged}
 use Rattle.exports.specs.declared.result.LuvrodanResult.{LuvrodanResult}
 use Rattle.report.specs.Page.{pageAnswer, pageOut}
 use Rattle.exports.specs.declared.result.LuvrodanPageResult.{LuvrodanPageResult}
-use Rattle.exports.specs.Result.{plainResult, taggedResult, pageResult}
+use Rattle.exports.specs.Result.{resultOf, pageResult}
 use Rattle.exports.specs.Row.{givenRow, leftRow}
 
 -- the result and the lent runs
@@ -22,7 +23,7 @@ plainLeft r m = record { result = r; memory = m }
 
 -- of the sheet, the lent runs and the allowance
 unfoldable pub exportedPlain : List ℕ → Memory → ℕ → PlainLeft
-exportedPlain sheet m fuel = let e : Plain.Ended = plain sheet m fuel in plainLeft (plainResult (e .answer)) (e .memory)
+exportedPlain sheet m fuel = let e : Ended Unit = plain sheet m fuel in plainLeft (resultOf (e .answer) 0 0) (e .memory)
 
 -- the result, the lent rule memory, the lent runs that both engines have, and the handler space
 pub record TaggedLeft : Type 0 where
@@ -37,8 +38,9 @@ taggedLeft r row m handler = record { result = r; row = row; memory = m; handler
 -- of the sheet, the table's bytes, the lent rule memory, the lent runs, the handler space and the allowance
 unfoldable pub exportedTagged : List ℕ → List ℕ → List ℤ → Memory → List ℤ → ℕ → TaggedLeft
 exportedTagged sheet bytes lent m handler fuel =
-    let e : Tagged.Ended = tagged sheet bytes (givenRow lent) m handler fuel in
-    taggedLeft (taggedResult (e .answer)) (leftRow (e .row) lent) (e .memory) (e .handler)
+    let x : Left = tagged sheet bytes (givenRow lent) m handler fuel in
+    let e : Ended Tag = x .ended in
+    taggedLeft (resultOf (e .answer) (e .ruler .faults) (e .ruler .kernelSteps)) (leftRow (e .ruler .row) lent) (e .memory) (x .handler)
 
 -- the result and the lent bytes
 pub record PageLeft : Type 0 where

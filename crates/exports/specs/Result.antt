@@ -2,11 +2,9 @@
 use Prim.Native.Nat.{ℕ}
 use lib.IntN.{pos}
 use Rattle.program.specs.declared.Refusal.{Refusal}
-use Rattle.step.specs.declared.Machine.{Machine}
-use Rattle.plain.specs.declared.Answer.{Answer as PlainAnswer}
-use Rattle.plain.specs.declared.Answer.the-variants as Plain
-use Rattle.tagged.specs.declared.Answer.{Answer as TaggedAnswer}
-use Rattle.tagged.specs.declared.Answer.the-variants as Tagged
+use Rattle.stack.specs.declared.Machine.{Machine}
+use Rattle.engine.specs.declared.Answer.{Answer}
+use Rattle.engine.specs.declared.Answer.the-variants as Answer
 use Rattle.report.specs.declared.Outcome.{Outcome}
 use Rattle.report.specs.declared.Outcome.the-variants as Made
 use Rattle.report.specs.Page.{pageLimit}
@@ -45,14 +43,10 @@ stoppedResult m stop steps faults kernel =
       kernel = kernel;
     }
 
--- the plain engine has no faults and no kernel steps
-abbrev pub plainResult : PlainAnswer → LuvrodanResult
-plainResult (Plain.Refused r) = refusedResult r
-plainResult (Plain.Stopped x) = stoppedResult (x .machine) (x .stop) (x .steps) 0 0
-
-abbrev pub taggedResult : TaggedAnswer → LuvrodanResult
-taggedResult (Tagged.Refused r) = refusedResult r
-taggedResult (Tagged.Stopped x) = stoppedResult (x .machine) (x .stop) (x .steps) (x .faults) (x .kernel)
+-- an engine's answer, with the faults and the kernel steps of its run
+abbrev pub resultOf : Answer → (faults kernel : ℕ) → LuvrodanResult
+resultOf (Answer.Refused r) faults kernel = refusedResult r
+resultOf (Answer.Stopped x) faults kernel = stoppedResult (x .machine) (x .stop) (x .steps) faults kernel
 
 -- a page and its length; or a buffer that is too short, and how long it has to be
 abbrev pub pageResult : Outcome → LuvrodanPageResult

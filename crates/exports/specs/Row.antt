@@ -3,7 +3,7 @@ use mathlib.Core.List.{List, _∷_}
 use lib.IntN.{ℤ, pos, negsuc}
 use lib.ListN.{length, replicate}
 use lib.Dec.{eqb}
-use Rattle.step.specs.Words.{choose}
+use Rattle.word.specs.Choose.{choose}
 
 -- a row that check 7 refuses with any table: its code is no command's, and it is not empty
 abbrev pub noRow : List ℤ

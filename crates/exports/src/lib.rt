@@ -6,8 +6,9 @@ use result::LuvrodanPageResult;
 use result::LuvrodanResult;
 ghost use mathlib.Core.Path.{_≡_};
 ghost use Rattle.policy.specs.Read.{readTable};
-ghost use Rattle.translator.specs.Translated.{handlerCount};
-ghost use Rattle.plain.specs.Plain.{memory};
+ghost use Rattle.translator.specs.Measure.{handlerCount};
+ghost use Rattle.step.specs.Lent.{cells, lent};
+ghost use Rattle.engine.specs.Memory.{output, memory};
 ghost use Rattle.exports.specs.Exported.{plainLeft, exportedPlain, taggedLeft, exportedTagged, pageLeft, exportedPage};
 
 // A run under the standard rules.
@@ -19,17 +20,28 @@ pub extern "C" fn luvrodan_plain(
     program: &mut [i64],
     stack: &mut [i64],
     numbers: &mut [i64],
-    marks: &mut [i64],
+    line_labels: &mut [i64],
     fuel: u64,
 ) -> LuvrodanResult
     ensures { λ r. ⌜ plainLeft r
-        (memory (now (values .exit)) (now (labels .exit)) (now (program .exit)) (now (stack .exit)) (now (numbers .exit)) (now (marks .exit)))
+        (memory (now (program .exit)) (lent (now (stack .exit)) (cells (now (values .exit)) (now (labels .exit))))
+        (output (now (numbers .exit)) (now («line_labels» .exit))))
         ≡ exportedPlain (now (sheet .entry))
-        (memory (now (values .entry)) (now (labels .entry)) (now (program .entry)) (now (stack .entry)) (now (numbers .entry)) (now (marks .entry)))
+        (memory (now (program .entry)) (lent (now (stack .entry)) (cells (now (values .entry)) (now (labels .entry))))
+        (output (now (numbers .entry)) (now («line_labels» .entry))))
         fuel ⌝ }
 {
-    let answer = plain::execute(sheet, values, labels, program, stack, numbers, marks, fuel);
-    result::of_plain(answer)
+    let answer = plain::execute(
+        sheet,
+        values,
+        labels,
+        program,
+        stack,
+        numbers,
+        line_labels,
+        fuel,
+    );
+    result::of_answer(answer, 0, 0)
 }
 
 // A run on the tag engine, under the rules of a table.
@@ -44,14 +56,16 @@ pub extern "C" fn luvrodan_tagged(
     stack: &mut [i64],
     handler: &mut [i64],
     numbers: &mut [i64],
-    marks: &mut [i64],
+    line_labels: &mut [i64],
     fuel: u64,
 ) -> LuvrodanResult
     ensures { λ r. ⌜ taggedLeft r (now («rule_memory» .exit))
-        (memory (now (values .exit)) (now (labels .exit)) (now (program .exit)) (now (stack .exit)) (now (numbers .exit)) (now (marks .exit)))
+        (memory (now (program .exit)) (lent (now (stack .exit)) (cells (now (values .exit)) (now (labels .exit))))
+        (output (now (numbers .exit)) (now («line_labels» .exit))))
         (now (handler .exit))
         ≡ exportedTagged (now (sheet .entry)) (now (table .entry)) (now («rule_memory» .entry))
-        (memory (now (values .entry)) (now (labels .entry)) (now (program .entry)) (now (stack .entry)) (now (numbers .entry)) (now (marks .entry)))
+        (memory (now (program .entry)) (lent (now (stack .entry)) (cells (now (values .entry)) (now (labels .entry))))
+        (output (now (numbers .entry)) (now («line_labels» .entry))))
         (now (handler .entry)) fuel ⌝ }
 {
     let cache = row::given(rule_memory);
@@ -65,12 +79,12 @@ pub extern "C" fn luvrodan_tagged(
         stack,
         handler,
         numbers,
-        marks,
+        line_labels,
         fuel,
     );
     row::leave(rule_memory, tagged.cache);
     let answer = tagged.answer;
-    result::of_tagged(answer)
+    result::of_answer(answer, tagged.faults, tagged.kernel)
 }
 
 // How many kernel commands the handler of a table has; 0 where the bytes are no table.

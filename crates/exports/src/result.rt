@@ -1,9 +1,10 @@
 // The engines' answers as ten words, and the page's as two.
+use engine::Answer;
 use program::Refusal;
 use report::Outcome;
-use step::Machine;
+use stack::Machine;
 ghost use mathlib.Core.Path.{_≡_};
-ghost use Rattle.exports.specs.Result.{refusedResult, stoppedResult, plainResult, taggedResult, pageResult};
+ghost use Rattle.exports.specs.Result.{refusedResult, stoppedResult, resultOf, pageResult};
 
 // What a run came to: `luvrodan_result` of include/luvrodan.h, field by field in its order.
 #[repr(C)]
@@ -61,23 +62,13 @@ fn stopped(m: Machine, stop: u64, steps: u64, faults: u64, kernel: u64) -> Luvro
     }
 }
 
-pub(crate) fn of_plain(answer: plain::Answer) -> LuvrodanResult
-    ensures { λ x. ⌜ x ≡ plainResult answer ⌝ }
+// An engine's answer, with the faults and the kernel steps of its run.
+pub(crate) fn of_answer(answer: Answer, faults: u64, kernel: u64) -> LuvrodanResult
+    ensures { λ x. ⌜ x ≡ resultOf answer faults kernel ⌝ }
 {
     match answer {
-        plain::Answer::Refused(r) => refused(r),
-        plain::Answer::Stopped(ran) => stopped(ran.machine, ran.stop, ran.steps, 0, 0),
-    }
-}
-
-pub(crate) fn of_tagged(answer: tagged::Answer) -> LuvrodanResult
-    ensures { λ x. ⌜ x ≡ taggedResult answer ⌝ }
-{
-    match answer {
-        tagged::Answer::Refused(r) => refused(r),
-        tagged::Answer::Stopped(ran) => {
-            stopped(ran.machine, ran.stop, ran.steps, ran.faults, ran.kernel)
-        }
+        Answer::Refused(r) => refused(r),
+        Answer::Stopped(ran) => stopped(ran.machine, ran.stop, ran.steps, faults, kernel),
     }
 }
 

@@ -18,7 +18,7 @@ use Rattle.policy.specs.Evaluate.{evalLabel, evalCondition}
 use Rattle.handler.specs.Kernel.{Instruction, Push, Bnz, stackLimit}
 use Rattle.handler.specs.Translate.{compileLabel, compileCondition}
 use Rattle.policy.specs.Write.{labelDepth, conditionDepth, LabelSupplied, ConditionSupplied}
-use Rattle.handler.specs.Row.{row}
+use Rattle.policy.specs.Row.{keyRow}
 use Rattle.handler.proofs.Word.{orWord-join, join-le, join-zero, difference-zero, subWrap-pos}
 use Rattle.handler.proofs.Exec.{exec}
 use Rattle.handler.proofs.Instruction.{exec-push, exec-dup, exec-or, exec-sub, exec-bnz, exec-bnz-zero, exec-read, exec-over}
@@ -89,20 +89,20 @@ module _ (n m : ℕ) (k : Key) (reads : Reads m k) where
   -- beside the key's words the row may hold any two
   module _ (p r : ℤ) where
     pub label-run : (e : LabelExpr) (rest : List Instruction) (s : List ℤ) → LabelSupplied m e → length s + labelDepth e ≤ stackLimit
-        → exec n (compileLabel e ++ rest) 0 s (row k p r) ≡ exec n rest 0 (pos (evalLabel k e) ∷ s) (row k p r)
-    label-run empty rest s h d = exec-push n rest s (row k p r) (pos 0) (omega arith)
-    label-run place rest s h d = exec-read n rest s (row k p r) 1 (pos (k .pc)) refl (omega arith)
+        → exec n (compileLabel e ++ rest) 0 s (keyRow k p r) ≡ exec n rest 0 (pos (evalLabel k e) ∷ s) (keyRow k p r)
+    label-run empty rest s h d = exec-push n rest s (keyRow k p r) (pos 0) (omega arith)
+    label-run place rest s h d = exec-read n rest s (keyRow k p r) 1 (pos (k .pc)) refl (omega arith)
     label-run input1 rest s h d =
-        exec-read n rest s (row k p r) 2 (pos (labelOf (k .input1))) (ap some (readable-word (k .input1) (reads .input1 h))) (omega arith)
+        exec-read n rest s (keyRow k p r) 2 (pos (labelOf (k .input1))) (ap some (readable-word (k .input1) (reads .input1 h))) (omega arith)
     label-run input2 rest s h d =
-        exec-read n rest s (row k p r) 3 (pos (labelOf (k .input2))) (ap some (readable-word (k .input2) (reads .input2 h))) (omega arith)
+        exec-read n rest s (keyRow k p r) 3 (pos (labelOf (k .input2))) (ap some (readable-word (k .input2) (reads .input2 h))) (omega arith)
     label-run input3 rest s h d =
-        exec-read n rest s (row k p r) 4 (pos (labelOf (k .input3))) (ap some (readable-word (k .input3) (reads .input3 h))) (omega arith)
+        exec-read n rest s (keyRow k p r) 4 (pos (labelOf (k .input3))) (ap some (readable-word (k .input3) (reads .input3 h))) (omega arith)
     label-run (join a b) rest s h d =
         simp append-assoc
         (label-run a _ s (h .0) (omega arith)
         ∙ label-run b _ _ (h .1) (omega arith)
-        ∙ exec-or n rest s (row k p r) _ _
+        ∙ exec-or n rest s (keyRow k p r) _ _
         ∙ rw (orWord-join (evalLabel k b) (evalLabel k a) (label-range b (h .1)) (label-range a (h .0)), join-comm))
 
   -- ══════════════════════════════════════════════════════════════════════════════════════════
@@ -130,26 +130,26 @@ module _ (n m : ℕ) (k : Key) (reads : Reads m k) where
   module _ (p r : ℤ) where
     pub condition-run : (c : Condition) (rest : List Instruction) (s : List ℤ)
         → ConditionSupplied m c → length s + suc (conditionDepth c) ≤ stackLimit
-        → exec n (compileCondition c ++ rest) 0 s (row k p r) ≡ exec n rest 0 (pos (conditionWord k c) ∷ s) (row k p r)
+        → exec n (compileCondition c ++ rest) 0 s (keyRow k p r) ≡ exec n rest 0 (pos (conditionWord k c) ∷ s) (keyRow k p r)
     condition-run (flows a b) rest s h d =
         simp append-assoc
         (label-run p r b _ s (h .1) (omega arith)
-        ∙ exec-dup n _ s (row k p r) _ (omega arith)
+        ∙ exec-dup n _ s (keyRow k p r) _ (omega arith)
         ∙ label-run p r a _ _ (h .0) (omega arith)
-        ∙ exec-or n _ _ (row k p r) _ _
+        ∙ exec-or n _ _ (keyRow k p r) _ _
         ∙ rw (orWord-join (evalLabel k a) (evalLabel k b) (label-range a (h .0)) (label-range b (h .1)))
-        (exec-sub n rest s (row k p r) _ _
+        (exec-sub n rest s (keyRow k p r) _ _
         ∙ rw (subWrap-pos (Label.join (evalLabel k a) (evalLabel k b)) (evalLabel k b) (join-range _ _)
         (join-le (evalLabel k a) (evalLabel k b) (label-range a (h .0)) (label-range b (h .1))))))
-    condition-run always rest s h d = exec-push n rest s (row k p r) (pos 0) (omega arith)
+    condition-run always rest s h d = exec-push n rest s (keyRow k p r) (pos 0) (omega arith)
     condition-run (both a b) rest s h d =
         simp append-assoc
         (condition-run a _ s (h .0) (omega arith)
         ∙ condition-run b _ _ (h .1) (omega arith)
-        ∙ exec-or n rest s (row k p r) _ _
+        ∙ exec-or n rest s (keyRow k p r) _ _
         ∙ rw (orWord-join (conditionWord k b) (conditionWord k a) (word-range b (h .1)) (word-range a (h .0))))
     condition-run (either a b) rest s h d =
         simp append-assoc
         (condition-run a _ s (h .0) (omega arith)
-        ∙ either-run n (compileCondition b) rest s (row k p r) (conditionWord k a) (conditionWord k b) (omega arith)
+        ∙ either-run n (compileCondition b) rest s (keyRow k p r) (conditionWord k a) (conditionWord k b) (omega arith)
         (condition-run b rest s (h .1) (omega arith)))

@@ -10,15 +10,14 @@ use lib.IntN.{ℤ, pos, negsuc}
 use lib.ListN.{length, getElem?, length-append}
 use lib.Dec.{eqb, eqb·suc-zero}
 use Rattle.word.specs.Wrap.{addWrap}
-use Rattle.program.specs.Command.{Opcode}
+use Rattle.program.specs.Command.{Opcode, supplies, hasResult}
 use Rattle.machine.specs.Rule.{Key, Verdict, allowedIf}
 use Rattle.policy.specs.Expression.{LabelExpr, Condition, flows, always, both, either, Rule, Table}
-use Rattle.policy.specs.Read.{supplies, hasResult}
 use Rattle.policy.specs.Write.{conditionDepth, ConditionSupplied, LabelWritable, ResultWritable, RuleWritable}
 use Rattle.policy.specs.Evaluate.{evalLabel, evalCondition, evalRule}
+use Rattle.policy.specs.Row.{keyRow, faultRow}
 use Rattle.handler.specs.Kernel.{Instruction, Jump, Push, Bnz, Dup, Add, returned}
 use Rattle.handler.specs.Translate.{read, compileAnswer, compileIf, compileRule, guarded, slots, concat, translate}
-use Rattle.handler.specs.Row.{row, faultRow}
 use Rattle.handler.specs.Claim.{outcomeOf, rowOf}
 use Rattle.handler.proofs.Exec.{exec, Ending, ending}
 use Rattle.handler.proofs.Instruction.{exec-push, exec-store, exec-ret, exec-bnz, exec-bnz-zero, exec-denied, exec-over, exec-pass}
@@ -37,7 +36,7 @@ endingFor k v = ending (outcomeOf v) (rowOf k v)
 module _ (n m : ℕ) (k : Key) (reads : Reads m k) where
   answer-run : (a : Rule) (rest : List Instruction) → LabelWritable m (a .pc) → LabelWritable m (a .result)
       → exec n (compileAnswer a ++ rest) 0 [] (faultRow k)
-      ≡ ending returned (row k (pos (evalLabel k (a .pc))) (pos (evalLabel k (a .result))))
+      ≡ ending returned (keyRow k (pos (evalLabel k (a .pc))) (pos (evalLabel k (a .result))))
   answer-run a rest h g =
       simp append-assoc
       (label-run n m k reads (negsuc 0) (negsuc 0) (a .pc) _ [] (h .1) (omega (arith, h .0))
@@ -50,7 +49,7 @@ module _ (n m : ℕ) (k : Key) (reads : Reads m k) where
 
   -- instructions that answer with p and r, behind a condition
   module _ (p r : ℕ) (code : List Instruction)
-      (answers : (rest : List Instruction) → exec n (code ++ rest) 0 [] (faultRow k) ≡ ending returned (row k (pos p) (pos r))) where
+      (answers : (rest : List Instruction) → exec n (code ++ rest) 0 [] (faultRow k) ≡ ending returned (keyRow k (pos p) (pos r))) where
     -- with the condition's number on the stack
     tested-run : (x : ℕ) (rest : List Instruction)
         → exec n (Bnz (pos (suc (length code))) ∷ code ++ (Push (negsuc 0) ∷ Jump ∷ rest)) 0 (pos x ∷ []) (faultRow k)

@@ -1,19 +1,20 @@
 -- The handler space: as long as two words an instruction, and its words give the instructions back.
 -- Assumes nothing.
 use mathlib.Core.Path.{_≡_, refl, sym, ap, fun-ext}
-use mathlib.Core.Bool.{Bool, true, false, _&&_}
+use mathlib.Core.Bool.{Bool, true, false, _&&_, _||_}
 use mathlib.Core.List.{List, [], _∷_, _++_}
 use mathlib.Core.Option.{none, some}
 use Prim.Native.Nat.{ℕ, zero, suc, _+_, _*_, _<_, _≤_}
 use native.Mathlib.Omega.{arith}
 use lib.IntN.{ℤ, pos}
 use lib.ListN.{length, getElem?, length-append}
-use lib.Dec.{ltb}
-use borrow.Author.Tests.{ltb-true, ltb-false, lt-ltb}
+use lib.Dec.{T, ltb, leb, leb→le}
+use borrow.Author.Tests.{ltb-true, ltb-false, lt-ltb, ne-eqb}
 use Rattle.word.specs.Lay.{laid}
+use Rattle.word.proofs.Bool.{and-left, and-right}
 use Rattle.handler.specs.Kernel.{Instruction, Add, Sub, Or, Load, Store, Dup, Swap, Jump, Ret, Push, Bnz}
 use Rattle.handler.specs.Kernel.{Code, run, handle, start}
-use Rattle.handler.specs.Space.{codeOf, operand, kernelWords, known, instructionAt, heldIf, held, handleSpace}
+use Rattle.handler.specs.Space.{codeOf, operand, kernelWords, instructions, withCode, known, instructionAt, heldIf, held, handleSpace}
 
 pub kernelWords-length : (code : List Instruction) → length (kernelWords code) ≡ 2 * length code
 unfolding kernelWords
@@ -39,6 +40,33 @@ known-words Ret = refl
 known-words Or = refl
 known-words Dup = refl
 known-words Swap = refl
+
+-- no instruction of a list has a code from lo on below hi
+abbrev outside : (lo hi code : ℕ) → Bool
+outside lo hi code = ltb code lo || leb hi code
+
+abbrev pub unused : (lo hi : ℕ) → List Instruction → Bool
+unused lo hi [] = true
+unused lo hi (i ∷ is) = outside lo hi (codeOf i) && unused lo hi is
+
+outside-other : (lo hi code other : ℕ) → T (outside lo hi other) → lo ≤ code → code < hi → code ≡ other → ⊥
+outside-other lo hi code other t h g e = by (ltb other lo) refl t
+  where
+    by : (b : Bool) → ltb other lo ≡ b → T (b || leb hi other) → ⊥
+    by true d t = omega (arith, ltb-true other lo d)
+    by false d t = omega (arith, leb→le hi other t)
+
+without-code : (lo hi code : ℕ) (is : List Instruction) → T (unused lo hi is) → lo ≤ code → code < hi → withCode code is ≡ none
+without-code lo hi code [] t h g = refl
+without-code lo hi code (i ∷ is) t h g =
+    let a = and-left (outside lo hi (codeOf i)) (unused lo hi is) t in
+    let b = and-right (outside lo hi (codeOf i)) (unused lo hi is) t in
+    rw (ne-eqb code (codeOf i) (outside-other lo hi code (codeOf i) a h g)) (without-code lo hi code is b h g)
+
+-- a code between two bounds, where no instruction has one, stands for none
+pub unknown-code : (lo hi code : ℕ) (n : ℤ) → T (unused lo hi (instructions n)) → lo ≤ code → code < hi → known (pos code) n ≡ none
+unfolding known
+unknown-code lo hi code n t h g = without-code lo hi code (instructions n) t h g
 
 words-at : (code : List Instruction) (rest : List ℤ) (i : ℕ) → i < length code
     → instructionAt (kernelWords code ++ rest) i ≡ getElem? code i

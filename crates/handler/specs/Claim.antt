@@ -8,11 +8,11 @@ use lib.ListN.{length}
 use Rattle.machine.specs.Rule.{Key, Verdict, denied, allowed}
 use Rattle.policy.specs.Expression.{Table}
 use Rattle.policy.specs.Evaluate.{evaluate}
+use Rattle.policy.specs.Row.{keyRow, faultRow}
 use Rattle.handler.specs.Kernel.{Instruction, Add, Sub, Or, Load, Store, Dup, Swap, Jump, Ret, Push, Bnz}
 use Rattle.handler.specs.Kernel.{Outcome, returned, goes, Code, Kernel, step, Result}
 use Rattle.handler.specs.Kernel as Kernel
 use Rattle.handler.specs.Translate.{translate}
-use Rattle.handler.specs.Row.{row, faultRow}
 
 -- what a verdict comes to: Ret or the jump to −1
 abbrev pub outcomeOf : Verdict → Outcome
@@ -22,7 +22,7 @@ outcomeOf (allowed p r) = returned
 -- and the row: both labels written, or the −1 pair as the fault wrote it
 abbrev pub rowOf : Key → Verdict → List ℤ
 rowOf k denied = faultRow k
-rowOf k (allowed p r) = row k (pos p) (pos r)
+rowOf k (allowed p r) = keyRow k (pos p) (pos r)
 
 -- the handler of t, run for a key, answers as the table does, in at most as many kernel steps as it has instructions
 pub record Handled (t : Table) (k : Key) (x : Result) : Type 0 where

@@ -1,6 +1,5 @@
 pub mod Kernel
 pub mod Translate
-pub mod Row
 pub mod Claim
 pub mod Space
 pub mod Reading

@@ -7,9 +7,9 @@ use Rattle.program.specs.Command.{Opcode, add, sub, pop, output, push, load, st
 use Rattle.machine.specs.Rule.{Input, present, missing, Key}
 use Rattle.policy.specs.Standard.{standardTable}
 use Rattle.policy.specs.Expression.{input1, input2, input3}
+use Rattle.policy.specs.Row.{keyRow, faultRow}
 use Rattle.handler.specs.Kernel.{returned, denied, Result, handle}
 use Rattle.handler.specs.Translate.{translate}
-use Rattle.handler.specs.Row.{row, faultRow}
 
 pub record Reading : Type 0 where
   pub key : Key
@@ -23,7 +23,7 @@ key o p l1 l2 l3 = record { opcode = o; pc = p; input1 = l1; input2 = l2; input3
 
 -- allowed with two labels; not allowed
 abbrev pub allows : Key → ℕ → ℕ → ℕ → Reading
-allows k p r steps = record { key = k; expected = record { outcome = returned; row = row k (pos p) (pos r); steps = steps } }
+allows k p r steps = record { key = k; expected = record { outcome = returned; row = keyRow k (pos p) (pos r); steps = steps } }
 
 abbrev pub denies : Key → ℕ → Reading
 denies k steps = record { key = k; expected = record { outcome = denied; row = faultRow k; steps = steps } }

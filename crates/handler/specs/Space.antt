@@ -5,23 +5,24 @@ use mathlib.Core.List.{List, [], _∷_}
 use mathlib.Core.Option.{Option, none, some}
 use lib.IntN.{ℤ, pos, negsuc}
 use lib.ListN.{length, getD}
-use lib.Dec.{ltb}
+use lib.Dec.{ltb, eqb}
+use Rattle.program.specs.Command as Sheet
 use Rattle.handler.specs.Kernel.{Instruction, Add, Sub, Or, Load, Store, Dup, Swap, Jump, Ret, Push, Bnz}
 use Rattle.handler.specs.Kernel.{Code, Result, run, start}
 
--- the codes that sheets have, then 0c to 0e
+-- the codes that sheets have; Or, Dup and Swap, which sheets do not have, are past all codes of sheets
 abbrev pub codeOf : Instruction → ℕ
-codeOf Add = 0x01
-codeOf Sub = 0x02
-codeOf (Push n) = 0x05
-codeOf Load = 0x06
-codeOf Store = 0x07
-codeOf Jump = 0x08
-codeOf (Bnz n) = 0x09
-codeOf Ret = 0x0b
-codeOf Or = 0x0c
-codeOf Dup = 0x0d
-codeOf Swap = 0x0e
+codeOf Add = Sheet.codeOf Sheet.add
+codeOf Sub = Sheet.codeOf Sheet.sub
+codeOf (Push n) = Sheet.codeOf Sheet.push
+codeOf Load = Sheet.codeOf Sheet.load
+codeOf Store = Sheet.codeOf Sheet.store
+codeOf Jump = Sheet.codeOf Sheet.jump
+codeOf (Bnz n) = Sheet.codeOf Sheet.bnz
+codeOf Ret = Sheet.codeOf Sheet.ret
+codeOf Or = 0x11
+codeOf Dup = 0x12
+codeOf Swap = 0x13
 
 -- the operand, or 0
 abbrev pub operand : Instruction → ℤ
@@ -41,15 +42,22 @@ unfoldable pub kernelWords : List Instruction → List ℤ
 kernelWords [] = []
 kernelWords (i ∷ code) = pos (codeOf i) ∷ operand i ∷ kernelWords code
 
--- in the order of their codes, from 0; what has no code in the kernel is none
-abbrev pub byCode : ℤ → List (Option Instruction)
-byCode n =
-    none ∷ some Add ∷ some Sub ∷ none ∷ none ∷ some (Push n) ∷ some Load ∷ some Store ∷ some Jump ∷ some (Bnz n) ∷ none ∷ some Ret
-    ∷ some Or ∷ some Dup ∷ some Swap ∷ []
+-- every instruction, in the order of their codes; those that have an operand with this one
+abbrev pub instructions : ℤ → List Instruction
+instructions n = Add ∷ Sub ∷ Push n ∷ Load ∷ Store ∷ Jump ∷ Bnz n ∷ Ret ∷ Or ∷ Dup ∷ Swap ∷ []
+
+-- the one that has a code
+abbrev pub foundIf : Bool → Instruction → Option Instruction → Option Instruction
+foundIf true i rest = some i
+foundIf false i rest = rest
+
+abbrev pub withCode : ℕ → List Instruction → Option Instruction
+withCode code [] = none
+withCode code (i ∷ is) = foundIf (eqb code (codeOf i)) i (withCode code is)
 
 -- the instruction that two words stand for
 unfoldable pub known : ℤ → ℤ → Option Instruction
-known (pos code) n = getD (byCode n) code none
+known (pos code) n = withCode code (instructions n)
 known (negsuc code) n = none
 
 -- the instruction at a place

@@ -8,7 +8,7 @@ use Prim.Native.Nat.{ℕ, zero, suc, _+_, _-_, _%_, _^_, _<_, _≤_}
 use native.Mathlib.Nat.{mod-eq-of-lt}
 use native.Mathlib.Omega.{arith}
 use lib.IntN.{ℤ, pos, negsuc, _+ℤ_}
-use lib.ListN.{length, getD, set, getElem?, length-set, List·getD-eq-default}
+use lib.ListN.{length, getD, set, getElem?, length-set}
 use lib.Seq.{set-out}
 use mir.Syntax.{w64}
 use mir.Val.{SFits}
@@ -25,8 +25,10 @@ use Rattle.kernel.specs.declared.How.the-variants as How
 use Rattle.kernel.specs.declared.Stepped.{Stepped}
 use Rattle.handler.specs.Kernel.{Instruction, Add, Sub, Or, Load, Store, Dup, Swap, Jump, Ret, Push, Bnz}
 use Rattle.handler.specs.Kernel.{Effect, ends, goes, failed, withValues, withWord, provided, pushing, jumping, effect, orWord}
-use Rattle.handler.specs.Space.{known, byCode}
-use Rattle.kernel.specs.Words.{stackOf, wholeOf, ending, going, effectOf, DoesOn, Does, Acts, choose, folding, combined, jumpingTo, branching}
+use Rattle.handler.specs.Space.{codeOf, known}
+use Rattle.handler.proofs.Space.{unknown-code}
+use Rattle.word.specs.Choose.{choose}
+use Rattle.kernel.specs.Words.{stackOf, wholeOf, ending, going, effectOf, DoesOn, Does, Acts, folding, combined, jumpingTo, branching}
 use Rattle.kernel.proofs.Words.{stack-length, stack-push, value-one, value-none, values-two, values-none}
 
 -- ════════════════════════════════════════════════════════════════════════════════════════════
@@ -54,7 +56,7 @@ stack-at st d e a h q = ap (stackOf (set st e a)) q ∙ stack-push st e a h
 folding-effect : (code place : ℕ) (s row : List ℤ)
     → effect (folding code) place s row ≡ withValues s (λ a b rest. goes (suc place) (combined code a b ∷ rest) row)
 unfolding effect
-folding-effect code place s row = by (eqb code 1) (eqb code 2)
+folding-effect code place s row = by (eqb code (codeOf Add)) (eqb code (codeOf Sub))
   where
     by : (x y : Bool) → effect (choose x Add (choose y Sub Or)) place s row
         ≡ withValues s (λ a b rest. goes (suc place) (choose x (addWrap a b) (choose y (subWrap a b) (orWord a b)) ∷ rest) row)
@@ -258,29 +260,33 @@ module _ (place d : ℕ) (st : List ℤ) where
 -- The instruction that a code stands for
 -- ════════════════════════════════════════════════════════════════════════════════════════════
 
-pub fold-known : (code : ℕ) (n : ℤ) → (code ≡ 0 → ⊥) → code < 3 → known (pos code) n ≡ some (folding code)
+pub fold-known : (code : ℕ) (n : ℤ) → codeOf Add ≤ code → code ≤ codeOf Sub → known (pos code) n ≡ some (folding code)
 unfolding known
-fold-known zero n z h = absurd (z refl)
-fold-known (suc zero) n z h = refl
-fold-known (suc (suc zero)) n z h = refl
-fold-known (suc (suc (suc code))) n z h = absurd (omega arith)
+fold-known zero n h g = absurd (omega arith)
+fold-known (suc zero) n h g = refl
+fold-known (suc (suc zero)) n h g = refl
+fold-known (suc (suc (suc code))) n h g = absurd (omega arith)
 
-pub or-known : (code : ℕ) (n : ℤ) → code ≡ 12 → known (pos code) n ≡ some (folding code)
+pub or-known : (code : ℕ) (n : ℤ) → code ≡ codeOf Or → known (pos code) n ≡ some (folding code)
 unfolding known
 or-known code n e = rw e
 
-pub none-known : (code : ℕ) (n : ℤ) → 3 ≤ code → code < 5 → known (pos code) n ≡ none
-unfolding known
-none-known zero n h g = absurd (omega arith)
-none-known (suc zero) n h g = absurd (omega arith)
-none-known (suc (suc zero)) n h g = absurd (omega arith)
-none-known (suc (suc (suc zero))) n h g = refl
-none-known (suc (suc (suc (suc zero)))) n h g = refl
-none-known (suc (suc (suc (suc (suc code))))) n h g = absurd (omega arith)
+-- between the codes, and past them all
+pub below-known : (code : ℕ) (n : ℤ) → code < codeOf Add → known (pos code) n ≡ none
+below-known code n h = unknown-code 0 (codeOf Add) code n tt (omega arith) h
 
-pub past-known : (code : ℕ) (n : ℤ) → 15 ≤ code → known (pos code) n ≡ none
-unfolding known
-past-known code n h = List·getD-eq-default (byCode n) none h
+pub after-sub-known : (code : ℕ) (n : ℤ) → codeOf Sub < code → code < codeOf (Push n) → known (pos code) n ≡ none
+after-sub-known code n h g = unknown-code (suc (codeOf Sub)) (codeOf (Push n)) code n tt h g
+
+pub after-bnz-known : (code : ℕ) (n : ℤ) → codeOf (Bnz n) < code → code < codeOf Or → (code ≡ codeOf Ret → ⊥) → known (pos code) n ≡ none
+after-bnz-known code n h g f = by (ltb code (codeOf Ret)) refl
+  where
+    by : (b : Bool) → ltb code (codeOf Ret) ≡ b → known (pos code) n ≡ none
+    by true e = unknown-code (suc (codeOf (Bnz n))) (codeOf Ret) code n tt h (ltb-true code (codeOf Ret) e)
+    by false e = let k = ltb-false code (codeOf Ret) e in unknown-code (suc (codeOf Ret)) (codeOf Or) code n tt (omega arith) g
+
+pub past-known : (code : ℕ) (n : ℤ) → codeOf Swap < code → code < 2 ^ 64 → known (pos code) n ≡ none
+past-known code n h g = unknown-code (suc (codeOf Swap)) (2 ^ 64) code n tt h g
 
 -- a word's bits: those of a negative code are past all codes
 pub residue-known : (code n : ℤ) → SFits w64 code → known (pos (residue 64 code)) n ≡ known code n
@@ -292,7 +298,7 @@ residue-known (pos code) n f =
 residue-known (negsuc code) n f =
     let h = f .sfits in
     let e : code % 2 ^ 64 ≡ code = mod-eq-of-lt (omega arith) in
-    rw e (past-known (2 ^ 64 - suc code) n (omega arith))
+    rw e (past-known (2 ^ 64 - suc code) n (omega arith) (omega arith))
 
 module _ (row : List ℤ) (o : Option Instruction) (place d : ℕ) (st st′ : List ℤ) (r : Stepped) where
   pub acts-on : (i : Instruction) → o ≡ some i → DoesOn row i place d st r st′ → Acts row o place d st r st′

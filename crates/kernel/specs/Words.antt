@@ -1,12 +1,13 @@
 -- The kernel on words, as the code has it: the stack lies in a run of words, bottom first, and an instruction hands back a record.
 use Prim.Native.Nat.{ℕ, zero, suc, _+_, _*_}
 use mathlib.Core.Path.{_≡_}
-use mathlib.Core.Bool.{Bool, true, false, _&&_}
+use mathlib.Core.Bool.{_&&_}
 use mathlib.Core.List.{List, [], _∷_}
 use mathlib.Core.Option.{Option, none, some}
 use lib.IntN.{ℤ, pos, negsuc}
 use lib.ListN.{length, getD, set}
 use lib.Dec.{ltb, eqb}
+use Rattle.word.specs.Choose.{choose}
 use Rattle.word.specs.Wrap.{addWrap, subWrap}
 use Rattle.kernel.specs.declared.Whole.{Whole}
 use Rattle.kernel.specs.declared.Whole.the-variants.{At, Below}
@@ -19,6 +20,7 @@ use Rattle.kernel.specs.declared.Handled.{Handled}
 use Rattle.kernel.specs.declared.Finished.{Finished}
 use Rattle.handler.specs.Kernel.{Instruction, Add, Sub, Or, Outcome, returned, denied, failed, orWord}
 use Rattle.handler.specs.Kernel.{Effect, ends, goes, effect, Result}
+use Rattle.handler.specs.Space.{codeOf}
 
 -- the entries of a stack of so many, top first
 unfoldable pub stackOf : List ℤ → ℕ → List ℤ
@@ -69,16 +71,12 @@ Acts row o place depth before r after = effectOf r after row ≡ actOf o place (
 -- Parts of instructions
 -- ════════════════════════════════════════════════════════════════════════════════════════════
 
-abbrev pub choose : {A : Type 0} → Bool → A → A → A
-choose true a b = a
-choose false a b = b
-
--- Add has code 1, Sub 2; the third is Or
+-- Add and Sub have their codes; the third is Or
 abbrev pub folding : ℕ → Instruction
-folding code = choose (eqb code 1) Add (choose (eqb code 2) Sub Or)
+folding code = choose (eqb code (codeOf Add)) Add (choose (eqb code (codeOf Sub)) Sub Or)
 
 abbrev pub combined : ℕ → ℤ → ℤ → ℤ
-combined code a b = choose (eqb code 1) (addWrap a b) (choose (eqb code 2) (subWrap a b) (orWord a b))
+combined code a b = choose (eqb code (codeOf Add)) (addWrap a b) (choose (eqb code (codeOf Sub)) (subWrap a b) (orWord a b))
 
 -- a jump: forward, or to −1
 abbrev pub jumpBy : Whole → ℕ → ℕ → Stepped

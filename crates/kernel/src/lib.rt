@@ -1,6 +1,17 @@
 // The kernel on lent words: one instruction after the other from the handler space, on a stack of its own, over the rule memory. Read
 // specs/Space.antt of `handler` first: `handle` is its `handleSpace`. specs/Words.antt says how the code's words stand for the kernel's
 // stack and effects.
+use handler::code::ADD;
+use handler::code::BNZ;
+use handler::code::DUP;
+use handler::code::JUMP;
+use handler::code::LOAD;
+use handler::code::OR;
+use handler::code::PUSH;
+use handler::code::RET;
+use handler::code::STORE;
+use handler::code::SUB;
+use handler::code::SWAP;
 use policy::row::Cache;
 use word::memory::put;
 use word::number::Index;
@@ -96,14 +107,14 @@ fn or(a: i64, b: i64) -> i64
     a | b
 }
 
-// Add has code 1, Sub 2, Or 12.
+// Add and Sub have their codes; the third is Or.
 fn combine(code: u64, a: i64, b: i64) -> i64
     ensures { λ r. ⌜ r ≡ combined code a b ⌝ }
 {
-    if code == 1 {
+    if code == ADD {
         return word::wrap::add(a, b);
     }
-    if code == 2 {
+    if code == SUB {
         return word::wrap::sub(a, b);
     }
     or(a, b)
@@ -286,43 +297,43 @@ fn choose(
     requires { ⌜ (place < 2 ^ 63) × (depth ≤ 64) × (length (now stack) ≡ 64) × (length (now row) ≡ 7) ⌝ }
     ensures { λ r. ⌜ Acts (now (row .entry)) (known (pos code) operand) place depth (now (stack .entry)) r (now (stack .exit)) ⌝ }
 {
-    if code < 7 {
-        if code < 3 {
-            if code == 0 {
+    if code < STORE {
+        if code <= SUB {
+            if code < ADD {
                 return ended(How::Failed);
             }
             return fold(code, place, depth, stack);
         }
-        if code == 5 {
+        if code == PUSH {
             return push(operand, place, depth, stack);
         }
-        if code == 6 {
+        if code == LOAD {
             return load(place, depth, stack, row);
         }
         return ended(How::Failed);
     }
-    if code < 10 {
-        if code == 7 {
+    if code <= BNZ {
+        if code == STORE {
             return store(place, depth, stack);
         }
-        if code == 8 {
+        if code == JUMP {
             return jump(place, depth, stack);
         }
         return bnz(operand, place, depth, stack);
     }
-    if code < 13 {
-        if code == 10 {
-            return ended(How::Failed);
-        }
-        if code == 11 {
+    if code < OR {
+        if code == RET {
             return ended(How::Returned);
         }
+        return ended(How::Failed);
+    }
+    if code == OR {
         return fold(code, place, depth, stack);
     }
-    if code == 13 {
+    if code == DUP {
         return dup(place, depth, stack);
     }
-    if code == 14 {
+    if code == SWAP {
         return swap(place, depth, stack);
     }
     ended(How::Failed)

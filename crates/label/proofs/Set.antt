@@ -1,10 +1,10 @@
 -- The laws of sets of principals, proved once over the number n of principals: union and subset go principal by principal; union is
 -- commutative, associative, idempotent and least; subset is a partial order; a union is a subset of whatever both sides are.
 -- Assumes nothing.
-use mathlib.Core.Path.{_≡_, refl, sym, ap, ap₂, subst, _∙_}
-use mathlib.Core.Bool.{Bool, true, false, _&&_, _||_}
+use mathlib.Core.Path.{_≡_, refl, sym, ap₂, subst, _∙_}
+use mathlib.Core.Bool.{true, _&&_, _||_}
 use Prim.Native.Nat.{ℕ, zero, suc, _+_, _*_, _/_, _%_, _^_, _<_, _≤_, max}
-use native.Mathlib.Nat.{max-comm, div-div-eq-div-mul, mul-comm, div-one, pow-succ', zero-div, zero-mod, zero-mul, mod-lt, le-of-suc-le-suc, not-suc-le-zero}
+use native.Mathlib.Nat.{max-comm, div-div-eq-div-mul, div-one, pow-succ'}
 use native.Mathlib.Omega.{arith}
 use lib.Arith.{lt-one}
 use lib.Bits.{bitOr, or-step, or-zero-l}

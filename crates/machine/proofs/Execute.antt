@@ -11,9 +11,9 @@ use Rattle.program.specs.declared.Command.{Command}
 use Rattle.program.specs.declared.Command.the-variants.{Add, Sub, Pop, Output, Push, Load, Store, Jump, Bnz, Call, Ret}
 use Rattle.program.specs.Command.{opcode, push, output}
 use Rattle.machine.specs.Atom.{Atom, Entry, Line}
-use Rattle.machine.specs.Rule.{Key, Verdict, denied, allowed, Policy}
+use Rattle.machine.specs.Rule.{Verdict, denied, allowed, Policy}
 use Rattle.machine.specs.State.{State, Stop, valueMissing, frameMissing, addressOutside, denial, stackFull, outputFull}
-use Rattle.machine.specs.Step.{Outcome, stopped, stepped, Request, halt, ask, stackLimit, decide, consult, request, execute}
+use Rattle.machine.specs.Step.{Outcome, stopped, stepped, Request, halt, ask, stackLimit, keyOf, decide, consult, request, execute}
 use Rattle.machine.specs.Stopped.{Denied}
 use Rattle.machine.proofs.Request.{value-all, values-all, frame-all, cell-all, provided-all}
 
@@ -48,10 +48,7 @@ module _ (π : Policy) (room : ℕ) (c : Command) (s : State) where
   consult-sound (halt x) e f = f e
   consult-sound (ask l1 l2 l3 k) e f = go _ refl
     where
-      key : Key
-      key = record { opcode = opcode c; pc = s .pc .label; input1 = l1; input2 = l2; input3 = l3 }
-
-      go : (v : Verdict) → π key ≡ v → Sound (decide v k)
+      go : (v : Verdict) → π (keyOf c s l1 l2 l3) ≡ v → Sound (decide v k)
       go denied g = no-leave (rw e g)
       go (allowed p r) g = f p r
 

@@ -11,17 +11,18 @@ use lib.ListN.{length, set}
 use lib.Dec.{ltb}
 use Rattle.word.specs.Wrap.{Signed, wrap, addWrap, subWrap}
 use Rattle.word.proofs.Laws.Wrap.{wrap-signed}
+use Rattle.word.proofs.Bool.{never}
 use Rattle.label.specs.Label.{InRange, bottom}
 use Rattle.label.proofs.Laws.{join-range}
 use Rattle.program.specs.declared.Command.{Command}
 use Rattle.program.specs.declared.Command.the-variants.{Add, Sub, Pop, Output, Push, Load, Store, Jump, Bnz, Call, Ret}
-use Rattle.program.specs.Command.{Opcode, add, sub, pop, output, push, load, store, jump, bnz, call, ret, opcode}
+use Rattle.program.specs.Command.{Opcode, add, sub, pop, output, push, load, store, jump, bnz, call, ret}
 use Rattle.machine.specs.Atom.{Atom, Entry, value, frame, Line}
-use Rattle.machine.specs.Rule.{Input, present, missing, Key, Verdict, denied, allowed, Policy, standard}
+use Rattle.machine.specs.Rule.{Input, present, missing, Verdict, denied, allowed, Policy, Ruler, rules, standard}
 use Rattle.machine.specs.Rule.{labelOf, allowedIf, rule}
 use Rattle.machine.specs.State.{State, stackFull, outputFull}
 use Rattle.machine.specs.Step.{Request, halt, ask, stackLimit, withValue, withValues, withFrame, withCell, atom}
-use Rattle.machine.specs.Step.{branch, decide, consult, request, execute}
+use Rattle.machine.specs.Step.{branch, keyOf, decide, consult, request, execute}
 use Rattle.machine.specs.Run.{step, run}
 use Rattle.machine.specs.Stopped.{CommandAt}
 use Rattle.machine.specs.Holds.{Each, AtomHas, EntryHas, LineHas, Holds, LabelsInRange, NumbersSigned, InputHas, Answers, ProgramHas}
@@ -32,7 +33,7 @@ use Rattle.machine.proofs.Step.{Gives, gives-stepped, step-all, run-kee
 -- Lists
 -- ════════════════════════════════════════════════════════════════════════════════════════════
 
-each-at : (P : Atom → Type 0) {l : List Atom} {i : ℕ} {a : Atom} → At l i a → Each P l → P a
+pub each-at : (P : Atom → Type 0) {l : List Atom} {i : ℕ} {a : Atom} → At l i a → Each P l → P a
 each-at P here h = h .0
 each-at P (there at) h = each-at P at (h .1)
 
@@ -153,16 +154,13 @@ module _ (N : ℤ → Type 0) (L : ℕ → Type 0) (wraps : (z : ℤ) → N (wra
     consult-holds c s h (halt x) g = tt
     consult-holds c s h (ask l1 l2 l3 k) (h1, h2, h3, g) = go _ refl
       where
-        key : Key
-        key = record { opcode = opcode c; pc = s .pc .label; input1 = l1; input2 = l2; input3 = l3 }
-
-        go : (v : Verdict) → π key ≡ v → Gives (Holds N L) (decide v k)
+        go : (v : Verdict) → π (keyOf c s l1 l2 l3) ≡ v → Gives (Holds N L) (decide v k)
         go denied e = tt
         go (allowed p r) e =
-            let (hp, hr) = answers key p r (record { pc = h .pc .1; input1 = h1; input2 = h2; input3 = h3 }) e in
+            let (hp, hr) = answers (keyOf c s l1 l2 l3) p r (record { pc = h .pc .1; input1 = h1; input2 = h2; input3 = h3 }) e in
             g p r hp hr
 
-    step-holds : (room : ℕ) (s : State) → Holds N L s → Gives (Holds N L) (step π room cs s)
+    pub step-holds : (room : ℕ) (s : State) → Holds N L s → Gives (Holds N L) (step π room cs s)
     unfolding execute
     step-holds room s h =
         step-all π room s (Gives (Holds N L)) cs
@@ -171,20 +169,28 @@ module _ (N : ℤ → Type 0) (L : ℕ → Type 0) (wraps : (z : ℤ) → N (wra
         consult-holds c s h (request room c s) (request-keeps N L s h wraps cs has on room c at))
         (λ e. tt)
 
-    pub run-holds : (room fuel : ℕ) (s : State) → Holds N L s → Holds N L (run π room cs fuel s .state)
-    run-holds room fuel s h =
-        run-keeps π room cs (Holds N L) (λ s t e g. gives-stepped (Holds N L) e (step-holds room s g)) fuel s h
+  -- of a ruler that answers with such labels in every state
+  pub run-holds : {R : Type 0} (ρ : Ruler R) → ((u : R) → Answers L (rules ρ u)) → (room fuel : ℕ) (s : State) (u : R)
+      → Holds N L s → Holds N L (run ρ room cs fuel s u .state)
+  run-holds ρ answers room fuel s u h =
+      run-keeps ρ room cs (Holds N L)
+      (λ s t u e g. gives-stepped (Holds N L) e (step-holds (rules ρ u) (answers u) room s g)) fuel s u h
 
 -- ════════════════════════════════════════════════════════════════════════════════════════════
 -- Labels in range
 -- ════════════════════════════════════════════════════════════════════════════════════════════
 
-pub run-range : (π : Policy) (room : ℕ) (cs : List Command) → Answers InRange π → (fuel : ℕ) (s : State) → LabelsInRange s
-    → LabelsInRange (run π room cs fuel s .state)
-run-range π room cs answers fuel s h =
-    let anything : ProgramHas (λ n. Unit) cs =
-    record { pushed = λ z n e. tt; branched = λ z n e. tt; following = λ z c e. tt } in
-    run-holds (λ n. Unit) InRange (λ z. tt) cs anything π answers room fuel s h
+-- of numbers nothing is asked
+anything : (cs : List Command) → ProgramHas (λ n. Unit) cs
+anything cs = record { pushed = λ z n e. tt; branched = λ z n e. tt; following = λ z c e. tt }
+
+pub step-range : (π : Policy) → Answers InRange π → (room : ℕ) (cs : List Command) (s : State) → LabelsInRange s
+    → Gives LabelsInRange (step π room cs s)
+step-range π answers room cs s h = step-holds (λ n. Unit) InRange (λ z. tt) cs (anything cs) π answers room s h
+
+pub run-range : {R : Type 0} (ρ : Ruler R) → ((u : R) → Answers InRange (rules ρ u)) → (room : ℕ) (cs : List Command) (fuel : ℕ)
+    (s : State) (u : R) → LabelsInRange s → LabelsInRange (run ρ room cs fuel s u .state)
+run-range ρ answers room cs fuel s u h = run-holds (λ n. Unit) InRange (λ z. tt) cs (anything cs) ρ answers room fuel s u h
 
 -- the standard policy's answers are in range
 abbrev InRangeVerdict : Verdict → Type 0
@@ -231,8 +237,8 @@ standard-range k p r h e =
 -- Numbers of 64 bits
 -- ════════════════════════════════════════════════════════════════════════════════════════════
 
-place-lt : (cs : List Command) (i : ℕ) (c : Command) → CommandAt cs (pos i) c → i < length cs
-place-lt [] i c e = let z : _≡_ {A = ℕ} 0 1 = cc in absurd (omega arith)
+pub place-lt : (cs : List Command) (i : ℕ) (c : Command) → CommandAt cs (pos i) c → i < length cs
+place-lt [] i c e = never (cc)
 place-lt (d ∷ cs) zero c e = omega arith
 place-lt (d ∷ cs) (suc i) c e = let h : i < length cs = place-lt cs i c e in omega arith
 
@@ -257,9 +263,9 @@ program-signed cs h pushed branched =
   where
     goes : (z : ℤ) (c : Command) (n : ℤ) → CommandAt cs z c → Signed 63 n → Signed 64 (z +ℤ n)
     goes (pos i) c n at g = let l : i < length cs = place-lt cs i c at in sum-signed i n (omega arith) g
-    goes (negsuc i) c n at g = absurd at
+    goes (negsuc i) c n at g = never (cc)
 
-pub run-numbers : (π : Policy) (room : ℕ) (cs : List Command) → ProgramHas (Signed 64) cs
-    → (fuel : ℕ) (s : State) → NumbersSigned s → NumbersSigned (run π room cs fuel s .state)
-run-numbers π room cs has fuel s h =
-    run-holds (Signed 64) (λ l. Unit) wrap-signed cs has π (λ k p r g e. (tt, tt)) room fuel s h
+pub run-numbers : {R : Type 0} (ρ : Ruler R) (room : ℕ) (cs : List Command) → ProgramHas (Signed 64) cs
+    → (fuel : ℕ) (s : State) (u : R) → NumbersSigned s → NumbersSigned (run ρ room cs fuel s u .state)
+run-numbers ρ room cs has fuel s u h =
+    run-holds (Signed 64) (λ l. Unit) wrap-signed cs has ρ (λ u k p r g e. (tt, tt)) room fuel s u h

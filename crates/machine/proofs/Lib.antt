@@ -1,7 +1,9 @@
-pub mod Readings
+pub mod Stops
 pub mod Request
 pub mod Execute
 pub mod Step
 pub mod Run
+pub mod Alike
 pub mod Holds
+pub mod Asked
 pub mod Privacy

@@ -12,10 +12,10 @@ use lib.ListN.{length}
 use borrow.Author.Tests.{eqb-true, eqb-false}
 use Rattle.program.specs.declared.Command.{Command}
 use Rattle.machine.specs.Atom.{Line}
-use Rattle.machine.specs.Rule.{Policy}
-use Rattle.machine.specs.State.{State, Stop, end, pcOutside}
+use Rattle.machine.specs.Rule.{Policy, Ruler, rules}
+use Rattle.machine.specs.State.{State, Stop, end, fuelSpent, pcOutside}
 use Rattle.machine.specs.Step.{Outcome, stopped, stepped, stackLimit, execute}
-use Rattle.machine.specs.Run.{Result, atEnd, step, run, spent, continue}
+use Rattle.machine.specs.Run.{atEnd, step, asked, Result, result, run, along, spent, continue}
 use Rattle.machine.specs.Stopped.{Counted, CommandAt, NoCommandAt, Stopped}
 use Rattle.machine.proofs.Step.{step-all, run-induction, run-keeps}
 use Rattle.machine.proofs.Execute.{Change, Cause, no-value, no-frame, no-cell, no-leave, no-room, no-line}
@@ -73,68 +73,95 @@ module _ (π : Policy) (room : ℕ) (cs : List Command) where
   halt-stopped e (inside c at (no-room h g)) = (c, at, (h, g))
   halt-stopped e (inside c at (no-line h g)) = (c, at, (h, g))
 
-  at-end : (n : ℕ) (z : ℤ) → atEnd n z ≡ true → z ≡ pos n
-  at-end n (pos i) e = ap pos (eqb-true i n e)
-  at-end n (negsuc i) e = cc
+at-end : (n : ℕ) (z : ℤ) → atEnd n z ≡ true → z ≡ pos n
+at-end n (pos i) e = ap pos (eqb-true i n e)
+at-end n (negsuc i) e = cc
 
-  not-at-end : (n : ℕ) (z : ℤ) → atEnd n z ≡ false → z ≢ pos n
-  not-at-end n (pos i) e f = eqb-false i n e (cc)
-  not-at-end n (negsuc i) e f = let z : _≡_ {A = ℕ} 0 1 = cc in omega arith
+not-at-end : (n : ℕ) (z : ℤ) → atEnd n z ≡ false → z ≢ pos n
+not-at-end n (pos i) e f = eqb-false i n e (cc)
+not-at-end n (negsuc i) e f = let z : _≡_ {A = ℕ} 0 1 = cc in omega arith
 
+module _ {R : Type 0} (ρ : Ruler R) (room : ℕ) (cs : List Command) where
   -- the stop says what the state is that the run stopped in
-  pub run-stop : (fuel : ℕ) (s : State) → let r : Result = run π room cs fuel s in Stopped π room cs (r .state) (r .stop)
+  pub run-stop : (fuel : ℕ) (s : State) (u : R)
+      → let r : Result R = run ρ room cs fuel s u in (v : R) × Stopped (rules ρ v) room cs (r .state) (r .stop)
   run-stop =
-      run-induction π room cs (λ fuel s r. Stopped π room cs (r .state) (r .stop))
-      (λ fuel s e. at-end _ _ e)
-      (λ s e. not-at-end _ _ e)
-      (λ fuel s x e g. halt-stopped (not-at-end _ _ e) (stopped-explained g))
-      (λ fuel s t r e g h. h)
+      run-induction ρ room cs (λ fuel s u r. (v : R) × Stopped (rules ρ v) room cs (r .state) (r .stop))
+      (λ fuel s u e. (u, at-end _ _ e))
+      (λ s u e. (u, not-at-end _ _ e))
+      (λ fuel s u x e g. (u, halt-stopped (rules ρ u) room cs (not-at-end _ _ e) (stopped-explained (rules ρ u) room cs g)))
+      (λ fuel s t u r e g h. h)
 
   -- ══════════════════════════════════════════════════════════════════════════════════════════
   -- Fuel
   -- ══════════════════════════════════════════════════════════════════════════════════════════
 
-  pub run-steps : (fuel : ℕ) (s : State) → Counted fuel s (run π room cs fuel s)
+  pub run-steps : (fuel : ℕ) (s : State) (u : R) → Counted fuel s (run ρ room cs fuel s u)
   run-steps =
-      run-induction π room cs Counted
-      (λ fuel s e. record { least = omega arith; most = omega arith; all = λ f. cc })
-      (λ s e. record { least = omega arith; most = omega arith; all = λ f. omega arith })
-      (λ fuel s x e g.
-      let u : spent x ≡ false = halt-unspent (stopped-explained g) in
+      run-induction ρ room cs (λ fuel s u r. Counted fuel s r)
+      (λ fuel s u e. record { least = omega arith; most = omega arith; all = λ f. cc })
+      (λ s u e. record { least = omega arith; most = omega arith; all = λ f. omega arith })
+      (λ fuel s u x e g.
+      let h : spent x ≡ false = halt-unspent (rules ρ u) room cs (stopped-explained (rules ρ u) room cs g) in
       record { least = omega arith; most = omega arith; all = λ f. cc })
-      (λ fuel s t r e g h.
-      let c : Change room s t = stepped-explained g in
+      (λ fuel s t u r e g h.
+      let c : Change room s t = stepped-explained (rules ρ u) room cs g in
       record { least = omega arith; most = omega arith; all = λ f. omega (arith, h .all f) })
 
-  -- a run that has ended, one whose next command is stopped, one that takes a step
-  pub run-end : (fuel : ℕ) (s : State) → atEnd (length cs) (s .pc .number) ≡ true
-      → run π room cs fuel s ≡ record { stop = end; state = s }
-  unfolding run
-  run-end zero s e = rw e
-  run-end (suc fuel) s e = rw e
+  -- ══════════════════════════════════════════════════════════════════════════════════════════
+  -- By the first step
+  -- ══════════════════════════════════════════════════════════════════════════════════════════
 
-  pub run-stopped : (fuel : ℕ) (s : State) (x : Stop)
-      → atEnd (length cs) (s .pc .number) ≡ false → step π room cs s ≡ stopped x
-      → run π room cs (suc fuel) s ≡ record { stop = x; state = s }
+  -- a run that has ended
+  pub run-end : (fuel : ℕ) (s : State) (u : R) → atEnd (length cs) (s .pc .number) ≡ true → run ρ room cs fuel s u ≡ result end s u
   unfolding run
-  run-stopped fuel s x e g = rw (e, g)
+  run-end zero s u e = rw e
+  run-end (suc fuel) s u e = rw e
 
-  pub run-stepped : (fuel : ℕ) (s t : State)
-      → atEnd (length cs) (s .pc .number) ≡ false → step π room cs s ≡ stepped t
-      → run π room cs (suc fuel) s ≡ run π room cs fuel t
-  unfolding run
-  run-stepped fuel s t e g = rw (e, g)
+  -- one without allowance, one whose next command is stopped, one that takes a step
+  module _ (s : State) (u : R) (e : atEnd (length cs) (s .pc .number) ≡ false) where
+    pub run-spent : run ρ room cs 0 s u ≡ result fuelSpent s u
+    unfolding run
+    run-spent = rw e
+
+    pub run-stopped : (fuel : ℕ) (x : Stop) → step (rules ρ u) room cs s ≡ stopped x
+        → run ρ room cs (suc fuel) s u ≡ result x s (asked ρ room cs s u)
+    unfolding run
+    run-stopped fuel x g = rw (e, g)
+
+    pub run-stepped : (fuel : ℕ) (t : State) → step (rules ρ u) room cs s ≡ stepped t
+        → run ρ room cs (suc fuel) s u ≡ run ρ room cs fuel t (asked ρ room cs s u)
+    unfolding run
+    run-stepped fuel t g = rw (e, g)
+
+  -- what each step changes: at the end, at a command that is stopped, after a step
+  module _ {A : Type 0} (change : State → A → A) (s : State) (u : R) (a : A) where
+    pub along-end : (fuel : ℕ) → atEnd (length cs) (s .pc .number) ≡ true → along ρ room cs change fuel s u a ≡ a
+    unfolding along
+    along-end zero e = refl
+    along-end (suc fuel) e = rw e
+
+    module _ (e : atEnd (length cs) (s .pc .number) ≡ false) (fuel : ℕ) where
+      pub along-stopped : (x : Stop) → step (rules ρ u) room cs s ≡ stopped x → along ρ room cs change (suc fuel) s u a ≡ a
+      unfolding along
+      along-stopped x g = rw (e, g)
+
+      pub along-stepped : (t : State) → step (rules ρ u) room cs s ≡ stepped t
+          → along ρ room cs change (suc fuel) s u a ≡ along ρ room cs change fuel t (asked ρ room cs s u) (change t a)
+      unfolding along
+      along-stepped t g = rw (e, g)
 
   -- a run with a + b steps of fuel is one with a, carried on with b
-  pub run-add : (a b : ℕ) (s : State) → run π room cs (a + b) s ≡ continue π room cs b (run π room cs a s)
+  pub run-add : (a b : ℕ) (s : State) (u : R) → run ρ room cs (a + b) s u ≡ continue ρ room cs b (run ρ room cs a s u)
   unfolding continue
-  run-add a b s =
-      run-induction π room cs (λ a s r. run π room cs (a + b) s ≡ continue π room cs b r)
-      (λ a s e. run-end (a + b) s e)
-      (λ s e. rw zero-add)
-      (λ a s x e g. rw (suc-add, run-stopped (a + b) s x e g, halt-unspent (stopped-explained g)))
-      (λ a s t r e g h. rw (suc-add, run-stepped (a + b) s t e g) h)
-      a s
+  run-add a b s u =
+      run-induction ρ room cs (λ a s u r. run ρ room cs (a + b) s u ≡ continue ρ room cs b r)
+      (λ a s u e. run-end (a + b) s u e)
+      (λ s u e. rw zero-add)
+      (λ a s u x e g.
+      rw (suc-add, run-stopped s u e (a + b) x g, halt-unspent (rules ρ u) room cs (stopped-explained (rules ρ u) room cs g)))
+      (λ a s t u r e g h. rw (suc-add, run-stepped s u e (a + b) t g) h)
+      a s u
 
   -- ══════════════════════════════════════════════════════════════════════════════════════════
   -- What a run leaves
@@ -142,25 +169,25 @@ module _ (π : Policy) (room : ℕ) (cs : List Command) where
 
   -- what every change keeps, a run keeps
   run-change : (P : State → Type 0) → ((s t : State) → Change room s t → P s → P t)
-      → (fuel : ℕ) (s : State) → P s → P (run π room cs fuel s .state)
-  run-change P f = run-keeps π room cs P (λ s t e h. f s t (stepped-explained e) h)
+      → (fuel : ℕ) (s : State) (u : R) → P s → P (run ρ room cs fuel s u .state)
+  run-change P f = run-keeps ρ room cs P (λ s t u e h. f s t (stepped-explained (rules ρ u) room cs e) h)
 
   -- lines are only added, and never more than fit
-  pub run-lines : (fuel : ℕ) (s : State) → (more : List Line) × (run π room cs fuel s .state .lines ≡ s .lines ++ more)
-  run-lines fuel s = run-change (λ t. (more : List Line) × (t .lines ≡ s .lines ++ more)) go fuel s ([], rw append-nil)
+  pub run-lines : (fuel : ℕ) (s : State) (u : R) → (more : List Line) × (run ρ room cs fuel s u .state .lines ≡ s .lines ++ more)
+  run-lines fuel s u = run-change (λ t. (more : List Line) × (t .lines ≡ s .lines ++ more)) go fuel s u ([], rw append-nil)
     where
-      go : (u t : State) → Change room u t → (more : List Line) × (u .lines ≡ s .lines ++ more)
+      go : (v t : State) → Change room v t → (more : List Line) × (v .lines ≡ s .lines ++ more)
           → (more : List Line) × (t .lines ≡ s .lines ++ more)
-      go u t c (ls, e) = (ls ++ c .lines .0, rw (c .lines .1, e, append-assoc))
+      go v t c (ls, e) = (ls ++ c .lines .0, rw (c .lines .1, e, append-assoc))
 
-  pub run-fits : (fuel : ℕ) (s : State) → length (s .lines) ≤ room → length (run π room cs fuel s .state .lines) ≤ room
+  pub run-fits : (fuel : ℕ) (s : State) (u : R) → length (s .lines) ≤ room → length (run ρ room cs fuel s u .state .lines) ≤ room
   run-fits = run-change (λ t. length (t .lines) ≤ room) (λ s t c h. c .fits h)
 
   -- the cells stay as many
-  pub run-memory : (fuel : ℕ) (s : State) → length (run π room cs fuel s .state .memory) ≡ length (s .memory)
-  run-memory fuel s = run-change (λ t. length (t .memory) ≡ length (s .memory)) (λ u t c e. c .memory ∙ e) fuel s refl
+  pub run-memory : (fuel : ℕ) (s : State) (u : R) → length (run ρ room cs fuel s u .state .memory) ≡ length (s .memory)
+  run-memory fuel s u = run-change (λ t. length (t .memory) ≡ length (s .memory)) (λ v t c e. c .memory ∙ e) fuel s u refl
 
   -- the stack stays within its limit
-  pub run-depth : (fuel : ℕ) (s : State)
-      → length (s .stack) ≤ stackLimit → length (run π room cs fuel s .state .stack) ≤ stackLimit
+  pub run-depth : (fuel : ℕ) (s : State) (u : R)
+      → length (s .stack) ≤ stackLimit → length (run ρ room cs fuel s u .state .stack) ≤ stackLimit
   run-depth = run-change (λ t. length (t .stack) ≤ stackLimit) (λ s t c h. c .depth h)

@@ -1,19 +1,18 @@
--- Reasoning about steps and runs: properties of whatever state a step gives. What every step keeps, a run keeps.
+-- Reasoning about steps and runs: properties of whatever state a step gives, and of what the ruler keeps. What every step keeps, a run
+-- keeps.
 -- Assumes nothing.
 use mathlib.Core.Path.{_≡_, refl}
 use mathlib.Core.Bool.{Bool, true, false}
-use mathlib.Core.List.{List, [], _∷_}
-use Prim.Native.Nat.{ℕ, zero, suc, zero-le}
-use native.Mathlib.Omega.{arith}
-use lib.IntN.{ℤ, pos, negsuc}
+use mathlib.Core.List.{List}
+use mathlib.Core.Option.{Option, none, some}
+use Prim.Native.Nat.{ℕ, zero, suc}
 use lib.ListN.{length}
 use Rattle.program.specs.declared.Command.{Command}
-use Rattle.machine.specs.Rule.{Key, Verdict, denied, allowed, Policy, standard}
+use Rattle.machine.specs.Rule.{Key, Verdict, denied, allowed, Policy, Ruler, rules, fixed, standard}
 use Rattle.machine.specs.State.{State, Stop, end, fuelSpent, pcOutside}
 use Rattle.machine.specs.Step.{Outcome, stopped, stepped, Request, halt, ask, decide, consult, execute, request}
-use Rattle.machine.specs.Run.{Result, atEnd, executeElement, executeAt, step, after, unlessEnd, run}
+use Rattle.machine.specs.Run.{commandAt, executeSome, step, askedBy, askedSome, asked, atEnd, Result, result, after, unlessEnd, run}
 use Rattle.machine.specs.Stopped.{CommandAt, NoCommandAt}
-use Rattle.machine.specs.Claim.{Refines}
 
 -- the state that a step gives has the property; a stopped command gives none
 abbrev pub Gives : (State → Type 0) → Outcome → Type 0
@@ -27,61 +26,82 @@ gives-map P Q f (stepped t) g = f t g
 pub gives-stepped : (P : State → Type 0) {o : Outcome} {t : State} → o ≡ stepped t → Gives P o → P t
 gives-stepped P e g = rw e at g
 
--- a step, by cases: the command at the place, or there is none
-module _ (π : Policy) (room : ℕ) (s : State) (R : Outcome → Type 0) where
-  element-all : (cs : List Command) (i : ℕ) → ((c : Command) → CommandAt cs (pos i) c → R (execute π room c s))
-      → (NoCommandAt cs (pos i) → R (stopped pcOutside)) → R (executeElement π room cs i s)
-  element-all [] i f g = g zero-le
-  element-all (c ∷ cs) zero f g = f c refl
-  element-all (c ∷ cs) (suc i) f g = element-all cs i f (λ h. g (omega arith))
+-- a step and what it leaves of a ruler, by cases: the command at the place, or there is none
+pub step-both : {R : Type 0} (ρ : Ruler R) (π : Policy) (room : ℕ) (s : State) (u : R) (P : Outcome → R → Type 0) (cs : List Command)
+    → ((c : Command) → CommandAt cs (s .pc .number) c → P (execute π room c s) (askedBy ρ c s u (request room c s)))
+    → (NoCommandAt cs (s .pc .number) → P (stopped pcOutside) u)
+    → P (step π room cs s) (asked ρ room cs s u)
+unfolding step asked
+step-both ρ π room s u P cs f g = go (commandAt cs (s .pc .number)) refl
+  where
+    go : (o : Option Command) → commandAt cs (s .pc .number) ≡ o → P (executeSome π room o s) (askedSome ρ room o s u)
+    go none e = g e
+    go (some c) e = f c e
 
-  place-all : (cs : List Command) (z : ℤ) → ((c : Command) → CommandAt cs z c → R (execute π room c s))
-      → (NoCommandAt cs z → R (stopped pcOutside)) → R (executeAt π room cs z s)
-  place-all cs (pos i) f g = element-all cs i f g
-  place-all cs (negsuc i) f g = g tt
+pub step-all : (π : Policy) (room : ℕ) (s : State) (P : Outcome → Type 0) (cs : List Command)
+    → ((c : Command) → CommandAt cs (s .pc .number) c → P (execute π room c s))
+    → (NoCommandAt cs (s .pc .number) → P (stopped pcOutside)) → P (step π room cs s)
+step-all π room s P cs f g = step-both (fixed π) π room s tt (λ o u. P o) cs f g
 
-  pub step-all : (cs : List Command) → ((c : Command) → CommandAt cs (s .pc .number) c → R (execute π room c s))
-      → (NoCommandAt cs (s .pc .number) → R (stopped pcOutside)) → R (step π room cs s)
+-- a step carries out the command at the place, which asks the ruler
+module _ (room : ℕ) (s : State) (cs : List Command) (c : Command) (at : CommandAt cs (s .pc .number) c) where
+  pub step-at : (π : Policy) → step π room cs s ≡ execute π room c s
   unfolding step
-  step-all cs f g = place-all cs (s .pc .number) f g
+  step-at π = rw at
+
+  pub asked-at : {R : Type 0} (ρ : Ruler R) (u : R) → asked ρ room cs s u ≡ askedBy ρ c s u (request room c s)
+  unfolding asked
+  asked-at ρ u = rw at
+
+-- where there is none it is stopped, and nothing is asked
+module _ (room : ℕ) (s : State) (cs : List Command) (out : NoCommandAt cs (s .pc .number)) where
+  pub step-none : (π : Policy) → step π room cs s ≡ stopped pcOutside
+  unfolding step
+  step-none π = rw out
+
+  pub asked-none : {R : Type 0} (ρ : Ruler R) (u : R) → asked ρ room cs s u ≡ u
+  unfolding asked
+  asked-none ρ u = rw out
 
 -- induction over runs: what holds of a run that has ended, that has no fuel or that is stopped, and of one that takes a
 -- step where it holds of the rest
-module _ (π : Policy) (room : ℕ) (cs : List Command) (Q : ℕ → State → Result → Type 0)
-    (ends : (fuel : ℕ) (s : State) → atEnd (length cs) (s .pc .number) ≡ true → Q fuel s (record { stop = end; state = s }))
-    (spends : (s : State) → atEnd (length cs) (s .pc .number) ≡ false → Q zero s (record { stop = fuelSpent; state = s }))
-    (stops : (fuel : ℕ) (s : State) (x : Stop) → atEnd (length cs) (s .pc .number) ≡ false → step π room cs s ≡ stopped x
-    → Q (suc fuel) s (record { stop = x; state = s }))
-    (goes : (fuel : ℕ) (s t : State) (r : Result) → atEnd (length cs) (s .pc .number) ≡ false → step π room cs s ≡ stepped t
-    → Q fuel t r → Q (suc fuel) s r) where
-  after-all : (fuel : ℕ) (s : State) → atEnd (length cs) (s .pc .number) ≡ false → (o : Outcome) → step π room cs s ≡ o
-      → ((t : State) → Q fuel t (run π room cs fuel t)) → Q (suc fuel) s (after o s (λ t. run π room cs fuel t))
-  after-all fuel s e (stopped x) g h = stops fuel s x e g
-  after-all fuel s e (stepped t) g h = goes fuel s t _ e g (h t)
+module _ {R : Type 0} (ρ : Ruler R) (room : ℕ) (cs : List Command) (Q : ℕ → State → R → Result R → Type 0)
+    (ends : (fuel : ℕ) (s : State) (u : R) → atEnd (length cs) (s .pc .number) ≡ true → Q fuel s u (result end s u))
+    (spends : (s : State) (u : R) → atEnd (length cs) (s .pc .number) ≡ false → Q zero s u (result fuelSpent s u))
+    (stops : (fuel : ℕ) (s : State) (u : R) (x : Stop) → atEnd (length cs) (s .pc .number) ≡ false
+    → step (rules ρ u) room cs s ≡ stopped x → Q (suc fuel) s u (result x s (asked ρ room cs s u)))
+    (goes : (fuel : ℕ) (s t : State) (u : R) (r : Result R) → atEnd (length cs) (s .pc .number) ≡ false
+    → step (rules ρ u) room cs s ≡ stepped t → Q fuel t (asked ρ room cs s u) r → Q (suc fuel) s u r) where
+  after-all : (fuel : ℕ) (s : State) (u : R) → atEnd (length cs) (s .pc .number) ≡ false
+      → (o : Outcome) → step (rules ρ u) room cs s ≡ o
+      → ((t : State) (v : R) → Q fuel t v (run ρ room cs fuel t v))
+      → let v : R = asked ρ room cs s u in Q (suc fuel) s u (after o s v (λ t. run ρ room cs fuel t v))
+  after-all fuel s u e (stopped x) g h = stops fuel s u x e g
+  after-all fuel s u e (stepped t) g h = goes fuel s t u _ e g (h t _)
 
-  unless-all : (fuel : ℕ) (s : State) (r : Result) (b : Bool) → atEnd (length cs) (s .pc .number) ≡ b
-      → (b ≡ false → Q fuel s r) → Q fuel s (unlessEnd b s r)
-  unless-all fuel s r true e h = ends fuel s e
-  unless-all fuel s r false e h = h refl
+  unless-all : (fuel : ℕ) (s : State) (u : R) (r : Result R) (b : Bool) → atEnd (length cs) (s .pc .number) ≡ b
+      → (b ≡ false → Q fuel s u r) → Q fuel s u (unlessEnd b s u r)
+  unless-all fuel s u r true e h = ends fuel s u e
+  unless-all fuel s u r false e h = h refl
 
-  pub run-induction : (fuel : ℕ) (s : State) → Q fuel s (run π room cs fuel s)
+  pub run-induction : (fuel : ℕ) (s : State) (u : R) → Q fuel s u (run ρ room cs fuel s u)
   unfolding run
-  run-induction zero s = unless-all zero s _ _ refl (λ e. spends s e)
-  run-induction (suc fuel) s = unless-all (suc fuel) s _ _ refl (λ e. after-all fuel s e _ refl (run-induction fuel))
+  run-induction zero s u = unless-all zero s u _ _ refl (λ e. spends s u e)
+  run-induction (suc fuel) s u = unless-all (suc fuel) s u _ _ refl (λ e. after-all fuel s u e _ refl (run-induction fuel))
 
 -- what every step keeps, a run keeps
-pub run-keeps : (π : Policy) (room : ℕ) (cs : List Command) (P : State → Type 0)
-    → ((s t : State) → step π room cs s ≡ stepped t → P s → P t)
-    → (fuel : ℕ) (s : State) → P s → P (run π room cs fuel s .state)
-run-keeps π room cs P keeps =
-    run-induction π room cs (λ fuel s r. P s → P (r .state))
-    (λ fuel s e h. h)
-    (λ s e h. h)
-    (λ fuel s x e g h. h)
-    (λ fuel s t r e g f h. f (keeps s t g h))
+pub run-keeps : {R : Type 0} (ρ : Ruler R) (room : ℕ) (cs : List Command) (P : State → Type 0)
+    → ((s t : State) (u : R) → step (rules ρ u) room cs s ≡ stepped t → P s → P t)
+    → (fuel : ℕ) (s : State) (u : R) → P s → P (run ρ room cs fuel s u .state)
+run-keeps ρ room cs P keeps =
+    run-induction ρ room cs (λ fuel s u r. P s → P (r .state))
+    (λ fuel s u e h. h)
+    (λ s u e h. h)
+    (λ fuel s u x e g h. h)
+    (λ fuel s t u r e g f h. f (keeps s t u g h))
 
 -- what a step under the standard policy gives, it gives under a policy that refines it
-module _ (π : Policy) (refines : Refines π) (P : State → Type 0) where
+module _ (π : Policy) (refines : (k : Key) (p r : ℕ) → π k ≡ allowed p r → standard k ≡ allowed p r) (P : State → Type 0) where
   decide-refines : (key : Key) (k : ℕ → ℕ → Outcome) (v : Verdict) → π key ≡ v
       → Gives P (decide (standard key) k) → Gives P (decide v k)
   decide-refines key k denied e g = tt

@@ -8,7 +8,7 @@ use lib.ListN.{length, take}
 use Rattle.label.specs.Label.{flows}
 use Rattle.program.specs.declared.Command.{Command}
 use Rattle.machine.specs.Atom.{Atom, Line}
-use Rattle.machine.specs.Rule.{Key, allowed, Policy, standard}
+use Rattle.machine.specs.Rule.{Key, allowed, Ruler, rules, standard}
 use Rattle.machine.specs.State.{start}
 use Rattle.machine.specs.Run.{run}
 
@@ -25,12 +25,12 @@ abbrev pub view : ℕ → List Line → List Line
 view S [] = []
 view S (l ∷ ls) = keep (inside S l) l (view S ls)
 
--- the first list is the first lines of the second, line for line
-abbrev pub Start : List Line → List Line → Type 0
+-- the first list is the first elements of the second
+abbrev pub Start : {A : Type 0} → List A → List A → Type 0
 Start xs ys = xs ≡ take (length xs) ys
 
 -- of two lists one is the start of the other
-abbrev pub OneStartsOther : List Line → List Line → Type 0
+abbrev pub OneStartsOther : {A : Type 0} → List A → List A → Type 0
 OneStartsOther xs ys = Start xs ys ⊎ Start ys xs
 
 -- a cell is outside a set if its label does not flow to the set
@@ -43,20 +43,20 @@ pub data Alike (S : ℕ) : List Atom → List Atom → Type 0 where
   same : {a : Atom} {xs ys : List Atom} → Alike S xs ys → Alike S (a ∷ xs) (a ∷ ys)
   hidden : {a b : Atom} {xs ys : List Atom} → Outside S a → Outside S b → Alike S xs ys → Alike S (a ∷ xs) (b ∷ ys)
 
--- a policy that allows only what the standard allows, and then gives its two labels
-abbrev pub Refines : Policy → Type 0
-Refines π = (k : Key) (p r : ℕ) → π k ≡ allowed p r → standard k ≡ allowed p r
+-- a ruler that allows only what the standard allows, and then gives its two labels, in every state
+abbrev pub Refines : {R : Type 0} → Ruler R → Type 0
+Refines {R} ρ = (u : R) (k : Key) (p r : ℕ) → rules ρ u k ≡ allowed p r → standard k ≡ allowed p r
 
--- for every such policy, every program, every set of owners and any two starts from alike cells, whatever allowance and output
--- space either has: of the two views one is the start of the other
-abbrev pub Private : Policy → Type 0
-Private π =
+-- for every program, every set of owners and any two starts from alike cells, each under a ruler of its own, whatever that keeps and
+-- whatever allowance and output space either has: of the two views one is the start of the other
+abbrev pub Private : {Q R : Type 0} → Ruler Q → Ruler R → Type 0
+Private {Q} {R} σ ρ =
     (program : List Command) (S : ℕ) (cells₁ cells₂ : List Atom) →
     Alike S cells₁ cells₂ →
-    (room₁ room₂ fuel₁ fuel₂ : ℕ) →
+    (room₁ room₂ fuel₁ fuel₂ : ℕ) (u : Q) (v : R) →
     OneStartsOther
-    (view S (run π room₁ program fuel₁ (start cells₁) .state .lines))
-    (view S (run π room₂ program fuel₂ (start cells₂) .state .lines))
+    (view S (run σ room₁ program fuel₁ (start cells₁) u .state .lines))
+    (view S (run ρ room₂ program fuel₂ (start cells₂) v .state .lines))
 
-abbrev pub Claim : Type 0
-Claim = (π : Policy) → Refines π → Private π
+abbrev pub Claim : Type 1
+Claim = (Q R : Type 0) (σ : Ruler Q) (ρ : Ruler R) → Refines σ → Refines ρ → Private σ ρ

@@ -5,5 +5,4 @@ pub mod Step
 pub mod Run
 pub mod Stopped
 pub mod Holds
-pub mod Reading
 pub mod Claim

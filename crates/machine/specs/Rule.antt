@@ -31,6 +31,22 @@ pub data Verdict : Type 0 where
 abbrev pub Policy : Type 0
 Policy = Key → Verdict
 
+-- a ruler is asked the same and may keep a state of its own: what it answers in a state, and the state that it is in then
+pub record Ruling (R : Type 0) : Type 0 where
+  pub verdict : Verdict
+  pub ruler : R
+
+abbrev pub Ruler : Type 0 → Type 0
+Ruler R = R → Key → Ruling R
+
+-- the policy that it is in a state
+abbrev pub rules : {R : Type 0} → Ruler R → R → Policy
+rules ρ u k = ρ u k .verdict
+
+-- a policy is a ruler that keeps nothing
+abbrev pub fixed : Policy → Ruler Unit
+fixed π u k = record { verdict = π k; ruler = u }
+
 -- the label of an input that the command supplies
 abbrev pub labelOf : Input → ℕ
 labelOf (present l) = l

@@ -1,71 +1,106 @@
--- A run: from any state, with an allowance (fuel), a number of lines that fit (room) and a policy.
+-- A run: from any state, with an allowance (fuel), a number of lines that fit (room) and a ruler.
 use Prim.Native.Nat.{ℕ, zero, suc}
+use mathlib.Core.Path.{_≡_}
 use mathlib.Core.Bool.{Bool, true, false}
-use mathlib.Core.List.{List, [], _∷_}
+use mathlib.Core.List.{List}
+use mathlib.Core.Option.{Option, none, some}
 use lib.IntN.{ℤ, pos, negsuc}
-use lib.ListN.{length}
+use lib.ListN.{length, getElem?}
 use lib.Dec.{eqb}
+use Rattle.word.specs.Choose.{choose}
 use Rattle.program.specs.declared.Command.{Command}
-use Rattle.machine.specs.Rule.{Policy}
-use Rattle.machine.specs.State.{State, Stop, end, fuelSpent, pcOutside, valueMissing, frameMissing}
-use Rattle.machine.specs.State.{addressOutside, denial, stackFull, outputFull}
-use Rattle.machine.specs.Step.{Outcome, stopped, stepped, execute}
-
--- where a run ended: the stop, and the state that it stopped in
-pub record Result : Type 0 where
-  pub stop : Stop
-  pub state : State
+use Rattle.machine.specs.Rule.{Policy, Ruler, rules}
+use Rattle.machine.specs.State.{State, Stop, end, fuelSpent, pcOutside, stopNumber}
+use Rattle.machine.specs.Step.{Outcome, stopped, stepped, Request, halt, ask, request, keyOf, execute}
 
 -- does the place equal the number of commands?
 abbrev pub atEnd : ℕ → ℤ → Bool
 atEnd n (pos i) = eqb i n
 atEnd n (negsuc i) = false
 
--- the command at a place is carried out; outside the program there is none
-abbrev pub executeElement : Policy → ℕ → List Command → ℕ → State → Outcome
-executeElement π room [] i s = stopped pcOutside
-executeElement π room (c ∷ cs) zero s = execute π room c s
-executeElement π room (c ∷ cs) (suc i) s = executeElement π room cs i s
+-- the command at a place; outside the program there is none
+abbrev pub commandAt : List Command → ℤ → Option Command
+commandAt cs (pos i) = getElem? cs i
+commandAt cs (negsuc i) = none
 
-abbrev pub executeAt : Policy → ℕ → List Command → ℤ → State → Outcome
-executeAt π room cs (pos i) s = executeElement π room cs i s
-executeAt π room cs (negsuc i) s = stopped pcOutside
+abbrev pub executeSome : Policy → ℕ → Option Command → State → Outcome
+executeSome π room none s = stopped pcOutside
+executeSome π room (some c) s = execute π room c s
 
 -- one step in the order of the stops: the end; no allowance left; the place outside; then the command
 unfoldable pub step : Policy → ℕ → List Command → State → Outcome
-step π room cs s = executeAt π room cs (s .pc .number) s
+step π room cs s = executeSome π room (commandAt cs (s .pc .number)) s
+
+-- it is asked where a command asks, whether the command is stopped after that or not
+abbrev pub askedBy : {R : Type 0} → Ruler R → Command → State → R → Request → R
+askedBy ρ c s u (halt x) = u
+askedBy ρ c s u (ask l1 l2 l3 k) = ρ u (keyOf c s l1 l2 l3) .ruler
+
+abbrev pub askedSome : {R : Type 0} → Ruler R → ℕ → Option Command → State → R → R
+askedSome ρ room none s u = u
+askedSome ρ room (some c) s u = askedBy ρ c s u (request room c s)
+
+-- what the command at the place leaves of it
+unfoldable pub asked : {R : Type 0} → Ruler R → ℕ → List Command → State → R → R
+asked ρ room cs s u = askedSome ρ room (commandAt cs (s .pc .number)) s u
+
+-- ════════════════════════════════════════════════════════════════════════════════════════════
+-- The run
+-- ════════════════════════════════════════════════════════════════════════════════════════════
+
+-- where a run ended: the stop, the state that it stopped in, and what the ruler keeps
+pub record Result (R : Type 0) : Type 0 where
+  pub stop : Stop
+  pub state : State
+  pub ruler : R
+
+abbrev pub result : {R : Type 0} → Stop → State → R → Result R
+result x s u = record { stop = x; state = s; ruler = u }
 
 -- what is done after an outcome
-abbrev pub after : Outcome → State → (State → Result) → Result
-after (stopped x) s k = record { stop = x; state = s }
-after (stepped t) s k = k t
+abbrev pub after : {R : Type 0} → Outcome → State → R → (State → Result R) → Result R
+after (stopped x) s u k = result x s u
+after (stepped t) s u k = k t
 
-abbrev pub unlessEnd : Bool → State → Result → Result
-unlessEnd true s r = record { stop = end; state = s }
-unlessEnd false s r = r
+abbrev pub unlessEnd : {R : Type 0} → Bool → State → R → Result R → Result R
+unlessEnd true s u r = result end s u
+unlessEnd false s u r = r
 
--- the run of the program cs from the state s with at most `fuel` steps
-unfoldable pub run : Policy → ℕ → List Command → ℕ → State → Result
-run π room cs zero s = unlessEnd (atEnd (length cs) (s .pc .number)) s (record { stop = fuelSpent; state = s })
-run π room cs (suc fuel) s =
-    let r : Result = after (step π room cs s) s (λ t. run π room cs fuel t) in unlessEnd (atEnd (length cs) (s .pc .number)) s r
+module _ {R : Type 0} (ρ : Ruler R) (room : ℕ) (cs : List Command) where
+  -- from the state s with at most `fuel` steps
+  unfoldable pub run : ℕ → State → R → Result R
+  run zero s u = unlessEnd (atEnd (length cs) (s .pc .number)) s u (result fuelSpent s u)
+  run (suc fuel) s u =
+      let v : R = asked ρ room cs s u in
+      let r : Result R = after (step (rules ρ u) room cs s) s v (λ t. run fuel t v) in
+      unlessEnd (atEnd (length cs) (s .pc .number)) s u r
+
+-- two runs, each under a ruler of its own, met the same stop in the same state: lines, cells, steps, place and stack
+pub record Same {Q R : Type 0} (q : Result Q) (r : Result R) : Type 0 where
+  pub stop : q .stop ≡ r .stop
+  pub state : q .state ≡ r .state
+
+-- ════════════════════════════════════════════════════════════════════════════════════════════
+-- What every step changes
+-- ════════════════════════════════════════════════════════════════════════════════════════════
+
+abbrev pub changed : {A : Type 0} → Outcome → A → (State → A) → A
+changed (stopped x) a k = a
+changed (stepped t) a k = k t
+
+module _ {R A : Type 0} (ρ : Ruler R) (room : ℕ) (cs : List Command) (change : State → A → A) where
+  -- what a run leaves of something that each step changes, after the state that the step gives
+  unfoldable pub along : ℕ → State → R → A → A
+  along zero s u a = a
+  along (suc fuel) s u a =
+      let v : R = asked ρ room cs s u in
+      let b : A = changed (step (rules ρ u) room cs s) a (λ t. along fuel t v (change t a)) in
+      choose (atEnd (length cs) (s .pc .number)) a b
 
 -- was it the allowance?
 abbrev pub spent : Stop → Bool
-spent end = false
-spent fuelSpent = true
-spent pcOutside = false
-spent valueMissing = false
-spent frameMissing = false
-spent addressOutside = false
-spent denial = false
-spent stackFull = false
-spent outputFull = false
-
-abbrev pub continueIf : Bool → Result → Result → Result
-continueIf true r more = more
-continueIf false r more = r
+spent x = eqb (stopNumber x) 1
 
 -- carrying on with `fuel` more steps: from a stop for spent allowance the run goes on, every other stop stays
-unfoldable pub continue : Policy → ℕ → List Command → ℕ → Result → Result
-continue π room cs fuel r = let more : Result = run π room cs fuel (r .state) in continueIf (spent (r .stop)) r more
+unfoldable pub continue : {R : Type 0} → Ruler R → ℕ → List Command → ℕ → Result R → Result R
+continue ρ room cs fuel r = let more = run ρ room cs fuel (r .state) (r .ruler) in choose (spent (r .stop)) more r

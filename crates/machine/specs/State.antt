@@ -1,7 +1,7 @@
 -- The state of a run, and its stops.
 use Prim.Native.Nat.{ℕ}
 use mathlib.Core.List.{List, []}
-use lib.IntN.{ℤ, pos}
+use lib.IntN.{pos}
 use Rattle.label.specs.Label.{bottom}
 use Rattle.machine.specs.Atom.{Atom, Entry, Line}
 

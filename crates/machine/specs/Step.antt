@@ -161,10 +161,13 @@ abbrev pub decide : Verdict → (ℕ → ℕ → Outcome) → Outcome
 decide denied k = stopped denial
 decide (allowed p r) k = k p r
 
+-- what it is asked with
+abbrev pub keyOf : Command → State → (l1 l2 l3 : Input) → Key
+keyOf c s l1 l2 l3 = record { opcode = opcode c; pc = s .pc .label; input1 = l1; input2 = l2; input3 = l3 }
+
 abbrev pub consult : Policy → Command → State → Request → Outcome
 consult π c s (halt x) = stopped x
-consult π c s (ask l1 l2 l3 k) =
-    decide (π (record { opcode = opcode c; pc = s .pc .label; input1 = l1; input2 = l2; input3 = l3 })) k
+consult π c s (ask l1 l2 l3 k) = decide (π (keyOf c s l1 l2 l3)) k
 
 -- one command, at the place of the state
 unfoldable pub execute : Policy → ℕ → Command → State → Outcome

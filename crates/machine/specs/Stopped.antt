@@ -3,39 +3,37 @@
 use Prim.Native.Nat.{ℕ, _+_, _≤_}
 use mathlib.Core.Path.{_≡_}
 use mathlib.Core.Logic.{_≢_}
-use mathlib.Core.Option.{some}
+use mathlib.Core.Bool.{Bool}
+use mathlib.Core.Option.{none, some}
 use mathlib.Core.List.{List}
-use lib.IntN.{ℤ, pos, negsuc}
-use lib.ListN.{length, getElem?}
+use lib.IntN.{ℤ, pos}
+use lib.ListN.{length}
+use lib.Dec.{eqb}
 use Rattle.program.specs.declared.Command.{Command}
 use Rattle.program.specs.Command.{opcode, push, output}
 use Rattle.machine.specs.Rule.{Policy, denied}
 use Rattle.machine.specs.State.{State, Stop, end, fuelSpent, pcOutside, valueMissing, frameMissing}
-use Rattle.machine.specs.State.{addressOutside, denial, stackFull, outputFull}
-use Rattle.machine.specs.Step.{Request, halt, ask, request, stackLimit}
-use Rattle.machine.specs.Run.{Result}
+use Rattle.machine.specs.State.{addressOutside, denial, stackFull, outputFull, stopNumber}
+use Rattle.machine.specs.Step.{Request, halt, ask, request, keyOf, stackLimit}
+use Rattle.machine.specs.Run.{commandAt, Result}
 
 -- the steps of a run from s with the given fuel: at most that many, and that many where it is spent
-pub record Counted (fuel : ℕ) (s : State) (r : Result) : Type 0 where
+pub record Counted {R : Type 0} (fuel : ℕ) (s : State) (r : Result R) : Type 0 where
   pub least : s .steps ≤ r .state .steps
   pub most : r .state .steps ≤ s .steps + fuel
   pub all : r .stop ≡ fuelSpent → r .state .steps ≡ s .steps + fuel
 
--- the command at a place
+-- the command at a place, and that there is none
 abbrev pub CommandAt : List Command → ℤ → Command → Type 0
-CommandAt cs (pos i) c = getElem? cs i ≡ some c
-CommandAt cs (negsuc i) c = ⊥
+CommandAt cs z c = commandAt cs z ≡ some c
 
--- there is none: the place is before the program, or not in it
 abbrev pub NoCommandAt : List Command → ℤ → Type 0
-NoCommandAt cs (pos i) = length cs ≤ i
-NoCommandAt cs (negsuc i) = Unit
+NoCommandAt cs z = commandAt cs z ≡ none
 
 -- the policy does not allow what is asked
 abbrev pub Denied : Policy → Command → State → Request → Type 0
 Denied π c s (halt x) = ⊥
-Denied π c s (ask l1 l2 l3 k) =
-    π (record { opcode = opcode c; pc = s .pc .label; input1 = l1; input2 = l2; input3 = l3 }) ≡ denied
+Denied π c s (ask l1 l2 l3 k) = π (keyOf c s l1 l2 l3) ≡ denied
 
 -- the command at the place of a state has a property
 abbrev pub Here : List Command → State → (Command → Type 0) → Type 0
@@ -52,3 +50,7 @@ Stopped π room cs s addressOutside = Here cs s (λ c. request room c s ≡ halt
 Stopped π room cs s denial = Here cs s (λ c. Denied π c s (request room c s))
 Stopped π room cs s stackFull = Here cs s (λ c. (opcode c ≡ push) × (stackLimit ≤ length (s .stack)))
 Stopped π room cs s outputFull = Here cs s (λ c. (opcode c ≡ output) × (room ≤ length (s .lines)))
+
+-- is it stop 6?
+abbrev pub denies : Stop → Bool
+denies x = eqb (stopNumber x) 6

@@ -1,6 +1,3 @@
-pub mod Limits
-pub mod Going
-pub mod Fused
-pub mod Simulate
-pub mod Whole
-pub mod Accepted
+pub mod Acting
+pub mod Following
+pub mod Next

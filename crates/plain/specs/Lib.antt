@@ -1,4 +1,3 @@
-pub mod Step
-pub mod Loop
-pub mod Start
+pub mod Ruler
+pub mod Next
 pub mod Plain

@@ -1,20 +1,19 @@
 // The plain engine: document 01's machine under the standard rules, on lent memory. Read specs/Plain.antt first.
-pub mod run;
-pub mod start;
+mod command;
+mod run;
 
+use engine::Answer;
+use engine::start::Given;
+use engine::start::Own;
 use program::Checked;
-use program::Refusal;
-pub use run::Ran;
 ghost use mathlib.Core.Path.{_≡_};
-ghost use Rattle.plain.specs.Plain.{memory, ended, plain};
+ghost use Rattle.step.specs.Lent.{cells, lent};
+ghost use Rattle.engine.specs.Memory.{output, memory};
+ghost use Rattle.engine.specs.Ended.{ended};
+ghost use Rattle.plain.specs.Plain.{plain};
 
-// The answer: a refusal before the first step, or where the run ended.
-pub enum Answer {
-    Refused(Refusal),
-    Stopped(Ran),
-}
-
-// Checks everything, and then runs the sheet on the lent cells to one named stop. A refusal leaves every lent run as it came.
+// Checks everything, and then runs the sheet on the lent cells to one named stop. A refusal, of 1 to 5, 8 at 1 or 2, or 9, leaves every
+// lent run as it came.
 pub fn execute(
     sheet: &[u8],
     values: &mut [i64],
@@ -22,29 +21,30 @@ pub fn execute(
     program: &mut [i64],
     stack: &mut [i64],
     numbers: &mut [i64],
-    marks: &mut [i64],
+    line_labels: &mut [i64],
     fuel: u64,
 ) -> Answer
-    ensures { λ r. ⌜ ended r
-        (memory (now (values .exit)) (now (labels .exit)) (now (program .exit)) (now (stack .exit)) (now (numbers .exit)) (now (marks .exit)))
+    ensures { λ r. ⌜ ended r tt
+        (memory (now (program .exit)) (lent (now (stack .exit)) (cells (now (values .exit)) (now (labels .exit))))
+        (output (now (numbers .exit)) (now («line_labels» .exit))))
         ≡ plain (now (sheet .entry))
-        (memory (now (values .entry)) (now (labels .entry)) (now (program .entry)) (now (stack .entry)) (now (numbers .entry)) (now (marks .entry)))
+        (memory (now (program .entry)) (lent (now (stack .entry)) (cells (now (values .entry)) (now (labels .entry))))
+        (output (now (numbers .entry)) (now («line_labels» .entry))))
         fuel ⌝ }
 {
-    let checked = start::check(
-        sheet,
-        values.len(),
-        labels,
-        program.len(),
-        stack.len(),
+    let given = Given {
+        values: values.len(),
+        program: program.len(),
+        stack: stack.len(),
         fuel,
-    );
+    };
+    let checked = engine::start::check(sheet, labels, given, Own::none());
     match checked {
         Checked::Refused(r) => Answer::Refused(r),
         Checked::Accepted(count) => {
-            program::load(sheet, program);
-            let room = start::smaller(numbers.len(), marks.len());
-            let ran = run::go(
+            program::write(sheet, program);
+            let room = engine::room(numbers.len(), line_labels.len());
+            let ran = run::accepted(
                 count,
                 room,
                 fuel,
@@ -53,7 +53,7 @@ pub fn execute(
                 values,
                 labels,
                 numbers,
-                marks,
+                line_labels,
             );
             Answer::Stopped(ran)
         }

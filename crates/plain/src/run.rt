@@ -1,81 +1,21 @@
-// One loop over the commands.
+// One loop over the commands. Read engine/specs/Loop.antt first, then specs/Next.antt.
+use crate::command::act;
+use engine::Ran;
 use label::Label;
-use step::Machine;
-use step::Stepped;
+use stack::CARRIED;
+use stack::Machine;
 use word::kind::Pc;
 use word::number::Index;
 ghost use mathlib.Core.Path.{_≡_};
 ghost use Prim.Native.Nat.{_≤_, _<_, _*_};
 ghost use lib.ListN.{length};
 ghost use Rattle.word.specs.Number.{indexOf};
-ghost use Rattle.step.specs.Words.{started};
-ghost use Rattle.step.specs.Lent.{after, lent};
-ghost use Rattle.plain.specs.Step.{stepOf};
-ghost use Rattle.plain.specs.Loop.{done, endOr, ready, nextOf, loopOf};
-
-// Where a run ended: the machine record, the stop and the steps.
-pub struct Ran {
-    pub machine: Machine,
-    pub stop: u64,
-    pub steps: u64,
-}
-
-// One command, chosen by a tree of tests.
-fn act(
-    room: usize,
-    code: u64,
-    operand: i64,
-    m: Machine,
-    stack: &mut [i64],
-    values: &mut [i64],
-    labels: &mut [i64],
-    numbers: &mut [i64],
-    marks: &mut [i64],
-) -> Stepped
-    ensures { λ r. ⌜ after r (lent (now (stack .exit)) (now (values .exit)) (now (labels .exit)) (now (numbers .exit)) (now (marks .exit)))
-        ≡ stepOf room code operand m
-        (lent (now (stack .entry)) (now (values .entry)) (now (labels .entry)) (now (numbers .entry)) (now (marks .entry))) ⌝ }
-{
-    if code < 6 {
-        if code < 3 {
-            return commands::arith(code, m, stack);
-        }
-        if code < 5 {
-            if code == 3 {
-                return commands::pop(m, stack);
-            }
-            return commands::output(room, m, stack, numbers, marks);
-        }
-        return commands::push(operand, m, stack);
-    }
-    if code < 8 {
-        if code == 6 {
-            return commands::load(m, stack, values, labels);
-        }
-        return commands::store(m, stack, values, labels);
-    }
-    if code < 10 {
-        if code == 8 {
-            return commands::jump(m, stack);
-        }
-        return commands::bnz(operand, m, stack);
-    }
-    if code == 10 {
-        return commands::call(m, stack);
-    }
-    commands::ret(m, stack)
-}
-
-// Stop 0 where the place is the number of commands, else another.
-pub fn end_or(m: Machine, count: usize, other: u64) -> u64
-    ensures { λ r. ⌜ r ≡ endOr m count other ⌝ }
-{
-    let place = word::number::unsigned(m.pc.0);
-    match place {
-        word::number::Natural::Of(n) => { if n == count as u64 { 0 } else { other } }
-        word::number::Natural::Negative => other,
-    }
-}
+ghost use Rattle.stack.specs.Words.{started};
+ghost use Rattle.step.specs.Lent.{cells, lent};
+ghost use Rattle.engine.specs.Memory.{output};
+ghost use Rattle.engine.specs.Loop.{done, loopOf};
+ghost use Rattle.plain.specs.Ruler.{standardRuler};
+ghost use Rattle.plain.specs.Next.{ready, nextOf};
 
 // Where in a program of so few commands a place stands: one test for below and above.
 fn place_in(pc: Pc, count: usize) -> Index
@@ -90,10 +30,10 @@ fn place_in(pc: Pc, count: usize) -> Index
     }
 }
 
-// The command to be chosen next, and the run as far as it.
+// The command to be carried out next, and the run as far as it.
 struct Chosen {
     machine: Machine,
-    code: u64,
+    word: i64,
     operand: i64,
     steps: u64,
 }
@@ -111,18 +51,18 @@ fn next(
     requires { ⌜ (i < count) × (count ≤ 4096) × (2 * count ≤ length (now program)) × (steps < fuel) ⌝ }
     ensures { λ r. ⌜ ready r (now (stack .exit)) ≡ nextOf count fuel (now (program .entry)) i m steps (now (stack .entry)) ⌝ }
 {
-    let code = word::wrap::to_bits(program[2 * i]);
+    let word = program[2 * i];
     let operand = program[2 * i + 1];
     let depth = m.depth;
     let place = m.label;
-    if code == 5 {
+    if word::wrap::to_bits(word) == 5 {
         if depth < 256 {
             if steps + 1 < fuel {
                 if i + 1 < count {
                     let over = m.push(stack, 0, operand, Label::EMPTY);
                     return Chosen {
                         machine: over.following(place),
-                        code: word::wrap::to_bits(program[2 * i + 2]),
+                        word: program[2 * i + 2],
                         operand: program[2 * i + 3],
                         steps: steps + 1,
                     };
@@ -132,7 +72,7 @@ fn next(
     }
     Chosen {
         machine: m,
-        code,
+        word,
         operand,
         steps,
     }
@@ -148,12 +88,15 @@ pub(crate) fn go(
     values: &mut [i64],
     labels: &mut [i64],
     numbers: &mut [i64],
-    marks: &mut [i64],
+    line_labels: &mut [i64],
 ) -> Ran
     requires { ⌜ (count ≤ 4096) × (2 * count ≤ length (now program)) ⌝ }
-    ensures { λ r. ⌜ done r (lent (now (stack .exit)) (now (values .exit)) (now (labels .exit)) (now (numbers .exit)) (now (marks .exit)))
-        ≡ loopOf count room (now (program .entry)) fuel 0 started
-        (lent (now (stack .entry)) (now (values .entry)) (now (labels .entry)) (now (numbers .entry)) (now (marks .entry))) ⌝ }
+    ensures { λ r. ⌜ done r tt
+        (lent (now (stack .exit)) (cells (now (values .exit)) (now (labels .exit))))
+        (output (now (numbers .exit)) (now («line_labels» .exit)))
+        ≡ loopOf standardRuler count room (now (program .entry)) fuel 0 started tt
+        (lent (now (stack .entry)) (cells (now (values .entry)) (now (labels .entry))))
+        (output (now (numbers .entry)) (now («line_labels» .entry))) ⌝ }
 {
     let mut m = Machine::start();
     let mut steps: u64 = 0;
@@ -163,20 +106,12 @@ pub(crate) fn go(
             Index::At(i) => {
                 let n = next(count, fuel, program, i, m, steps, stack);
                 steps = n.steps;
-                let r = act(
-                    room,
-                    n.code,
-                    n.operand,
-                    n.machine,
-                    stack,
-                    values,
-                    labels,
-                    numbers,
-                    marks,
-                );
-                let machine = r.machine;
-                let stop = r.stop;
-                if stop != 9 {
+                let before = n.machine;
+                let r = act(n.word, n.operand, before, stack, values, labels);
+                let w = engine::emit(before, r, room, numbers, line_labels);
+                let machine = w.machine;
+                let stop = w.stop;
+                if stop != CARRIED {
                     return Ran {
                         machine,
                         stop,
@@ -187,7 +122,7 @@ pub(crate) fn go(
                 steps += 1;
             }
             Index::Outside => {
-                let stop = end_or(m, count, 2);
+                let stop = engine::end_or(m, count, 2);
                 return Ran {
                     machine: m,
                     stop,
@@ -196,10 +131,54 @@ pub(crate) fn go(
             }
         }
     }
-    let stop = end_or(m, count, 1);
+    let stop = engine::end_or(m, count, 1);
     Ran {
         machine: m,
         stop,
         steps,
+    }
+}
+
+// Runs a program that the start has accepted. What it needs of the lent runs is tested once more, here where the compiler sees it: it then
+// leaves the tests of lengths out of the loop.
+pub(crate) fn accepted(
+    count: usize,
+    room: usize,
+    fuel: u64,
+    program: &[i64],
+    stack: &mut [i64],
+    values: &mut [i64],
+    labels: &mut [i64],
+    numbers: &mut [i64],
+    line_labels: &mut [i64],
+) -> Ran
+    requires { ⌜ (count ≤ 4096) × (2 * count ≤ length (now program)) × (768 ≤ length (now stack))
+        × (length (now values) ≤ 1024) × (length (now values) ≡ length (now labels)) ⌝ }
+    ensures { λ r. ⌜ done r tt
+        (lent (now (stack .exit)) (cells (now (values .exit)) (now (labels .exit))))
+        (output (now (numbers .exit)) (now («line_labels» .exit)))
+        ≡ loopOf standardRuler count room (now (program .entry)) fuel 0 started tt
+        (lent (now (stack .entry)) (cells (now (values .entry)) (now (labels .entry))))
+        (output (now (numbers .entry)) (now («line_labels» .entry))) ⌝ }
+{
+    let cells = (values.len() <= 1024) & (values.len() == labels.len());
+    if (768 <= stack.len()) & cells {
+        return go(
+            count,
+            room,
+            fuel,
+            program,
+            stack,
+            values,
+            labels,
+            numbers,
+            line_labels,
+        );
+    }
+    let machine = Machine::start();
+    Ran {
+        machine,
+        stop: 1,
+        steps: 0,
     }
 }

@@ -3,7 +3,7 @@
 use mathlib.Core.Path.{_≡_, refl, sym, ap, _∙_}
 use mathlib.Core.Bool.{Bool, true, false, _&&_}
 use mathlib.Core.Option.{Option, none, some}
-use Prim.Native.Nat.{ℕ, _^_}
+use Prim.Native.Nat.{ℕ, zero, suc, _≤_, _^_}
 use native.Mathlib.Omega.{arith}
 use lib.IntN.{ℤ, pos, negsuc}
 use lib.Dec.{leb, ltb}
@@ -13,13 +13,14 @@ use Rattle.label.specs.Label.{principals, InRange}
 use Rattle.label.specs.declared.Stored.{Stored}
 use Rattle.label.specs.declared.Stored.the-variants as Stored
 use Rattle.label.specs.Word.{storedIf, stored}
-use Rattle.program.specs.Command.{Opcode, add, sub, pop, output, push, load, store, jump, bnz, call, ret, codeOf}
-use Rattle.program.proofs.Codes.{opcodeOf-codeOf}
+use Rattle.program.specs.Command.{Opcode, codeOf, supplies}
+use Rattle.program.proofs.Codes.{opcodeOf-codeOf, code-least}
 use Rattle.machine.specs.Rule.{Input, present, missing, inputWord, Key, Verdict, denied, allowed}
+use Rattle.machine.specs.Holds.{Marked, WellMarked}
 use Rattle.policy.specs.Expression.{Table}
 use Rattle.policy.specs.Evaluate.{evaluate}
-use Rattle.policy.specs.Read.{supplies}
-use Rattle.policy.specs.Row.{isZero, emptyRow, inputOf, presentOf, labelOption, given, holds, rowKey, isStored, agrees, acceptedRow, keyRow, Marked, WellMarked}
+use Rattle.policy.specs.Row.{isZero, emptyRow, inputOf, presentOf, labelOption, given, holds, rowKey, isStored, agrees}
+use Rattle.policy.specs.Row.{acceptedRow, keyRow}
 
 -- ════════════════════════════════════════════════════════════════════════════════════════════
 -- Labels and inputs as words
@@ -81,18 +82,12 @@ holds-some : {A : Type 0} (x : Option A) (f : A → Bool) → holds x f ≡ true
 holds-some none f e = absurd (let z : _≡_ {A = ℕ} 0 1 = cc in omega arith)
 holds-some (some a) f e = record { value = a; is = refl; then = e }
 
+positive-not-zero : (n : ℕ) → 1 ≤ n → isZero (pos n) ≡ false
+positive-not-zero zero h = absurd (omega arith)
+positive-not-zero (suc n) h = refl
+
 code-not-zero : (o : Opcode) → isZero (pos (codeOf o)) ≡ false
-code-not-zero add = refl
-code-not-zero sub = refl
-code-not-zero pop = refl
-code-not-zero output = refl
-code-not-zero push = refl
-code-not-zero load = refl
-code-not-zero store = refl
-code-not-zero jump = refl
-code-not-zero bnz = refl
-code-not-zero call = refl
-code-not-zero ret = refl
+code-not-zero o = positive-not-zero (codeOf o) (code-least o)
 
 abbrev keyWith : Opcode → ℕ → Input → Input → Input → Key
 keyWith o p a b c = record { opcode = o; pc = p; input1 = a; input2 = b; input3 = c }

@@ -2,12 +2,6 @@ pub mod Tokens
 pub mod Writing
 pub mod Writable
 pub mod Standard
-pub mod LabelReading
-pub mod ConditionReading
-pub mod RuleReading
-pub mod TableReading
-pub mod Asking
 pub mod Rows
-pub mod RowKeys
 pub mod Hits
 pub mod Readings

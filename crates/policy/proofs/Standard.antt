@@ -4,15 +4,11 @@ use mathlib.Core.Path.{_≡_, refl}
 use Rattle.program.specs.Command.{Opcode, add, sub, pop, output, push, load, store, jump, bnz, call, ret}
 use Rattle.machine.specs.Rule.{Input, Key, standard}
 use Prim.Native.Nat.{ℕ}
-use mathlib.Core.Option.{some}
-use Rattle.policy.specs.declared.Labels.{Labels}
 use Rattle.policy.specs.Token.{tokenOf, tokenAt}
-use Rattle.policy.specs.Read.{readLabel, readCondition, readRuleWith, readRules, table, readTable, supplies}
+use Rattle.policy.specs.Read.{readLabel, readCondition, readRuleWith, readRules, table, readTable}
 use Rattle.policy.specs.Write.{writeLabel, writeCondition, writeTable}
 use Rattle.policy.specs.Standard.{standardBytes, standardTable}
 use Rattle.policy.specs.Evaluate.{evaluate}
-use Rattle.policy.specs.Value.{keyOf}
-use Rattle.policy.specs.Ask.{ask}
 
 pub standard-read : readTable standardBytes ≡ table standardTable
 unfolding readTable readRules readRuleWith readCondition readLabel tokenAt tokenOf standardTable
@@ -41,7 +37,3 @@ by-opcode ret p i1 i2 i3 = refl
 -- reading the standard table directly is the standard policy
 pub evaluate-standard : (k : Key) → evaluate standardTable k ≡ standard k
 evaluate-standard k = by-opcode (k .opcode) (k .pc) (k .input1) (k .input2) (k .input3)
-
--- the bytes of the standard table say what the standard policy says
-pub ask-standard : (o : Opcode) (ls : Labels) → ask (readTable standardBytes) (some o) ls ≡ standard (keyOf o (supplies o) ls)
-ask-standard o ls = rw standard-read (evaluate-standard (keyOf o (supplies o) ls))

@@ -10,8 +10,8 @@ use mathlib.Core.Option.{none, some}
 use mathlib.Core.Bool.{Bool, true, false}
 use lib.Dec.{leb}
 use borrow.Author.Tests.{leb-true}
-use Rattle.policy.specs.declared.expression.Token.{Token}
-use Rattle.policy.specs.declared.expression.Token.the-variants.{Nothing}
+use Rattle.policy.specs.declared.Token.{Token}
+use Rattle.policy.specs.declared.Token.the-variants.{Nothing}
 use Rattle.policy.specs.Token.{tokens, orNothing, tokenIf, tokenOf, tokenAt}
 
 -- a byte that is none of the ten stands for nothing

@@ -1,20 +1,20 @@
 -- A table that was read can be written: its expressions are at most 8 deep, name supplied inputs only, and its bytes are those read.
 -- Assumes nothing.
-use mathlib.Core.Path.{_≡_, refl, sym, ap, _∙_}
+use mathlib.Core.Path.{_≡_, refl}
 use mathlib.Core.Bool.{Bool, true, false}
-use mathlib.Core.List.{List, [], _∷_, _++_}
+use mathlib.Core.List.{List, [], _∷_}
 use mathlib.Core.Option.{Option, none, some}
 use Prim.Native.Nat.{ℕ, zero, suc, _+_, _<_, _≤_, max}
 use native.Mathlib.Omega.{arith}
 use lib.Dec.{leb, ltb, eqb}
 use lib.ListN.{length, getElem?, length-append}
-use borrow.Author.Tests.{leb-true, ltb-false, eqb-true}
-use Rattle.program.specs.Command.{Opcode, opcodes}
-use Rattle.policy.specs.declared.expression.Token.{Token}
-use Rattle.policy.specs.declared.expression.Token.the-variants.{Empty, Place, Input1, Input2, Input3, Join, Flows, True, And, Or, Nothing}
-use Rattle.policy.specs.Expression.{LabelExpr, empty, place, input1, input2, input3, join, Condition, flows, always, both, either, Rule, Table}
+use borrow.Author.Tests.{leb-true}
+use Rattle.program.specs.Command.{Opcode, opcodes, supplies, hasResult}
+use Rattle.policy.specs.declared.Token.{Token}
+use Rattle.policy.specs.declared.Token.the-variants.{Empty, Place, Input1, Input2, Input3, Join, Flows, True, And, Or, Nothing}
+use Rattle.policy.specs.Expression.{LabelExpr, empty, place, input1, input2, input3, join, Condition, flows, both, either, Rule, Table}
 use Rattle.policy.specs.Token.{tokenAt, tokenOption}
-use Rattle.policy.specs.Read.{Read, fault, found, andThen, readTwo, readIf, labelFrom, readLabel, conditionFrom, readCondition, depthLimit, supplies, hasResult, emptyByte, resultIf, readRuleWith, prepend, readRules, ReadTable, refused, table, wholeIf, whole, tableLimit, tableIf, readTable}
+use Rattle.policy.specs.Read.{Read, fault, found, andThen, readTwo, readIf, labelFrom, readLabel, conditionFrom, readCondition, depthLimit, emptyByte, resultIf, readRuleWith, prepend, readRules, table, wholeIf, whole, tableLimit, tableIf, readTable}
 use Rattle.policy.specs.Write.{writeLabel, writeCondition, writeRule, writeTable, labelDepth, conditionDepth, LabelSupplied, ConditionSupplied, ResultWritable, RuleWritable, RulesWritable, TableWritable}
 
 -- what is found has a property, with the offset after it

@@ -7,10 +7,10 @@ use Prim.Native.Nat.{ℕ, zero, suc, _+_, _≤_}
 use native.Mathlib.Omega.{arith}
 use lib.ListN.{length, drop, length-append}
 use borrow.Author.Tests.{le-leb, le-ltb}
-use Rattle.program.specs.Command.{Opcode, opcodes}
+use Rattle.program.specs.Command.{Opcode, opcodes, supplies, hasResult}
 use Rattle.policy.specs.Expression.{LabelExpr, empty, place, input1, input2, input3, join, Condition, flows, always, both, either, Rule, Table}
 use Rattle.policy.specs.Token.{tokenOf}
-use Rattle.policy.specs.Read.{Read, found, readTwo, readLabel, readCondition, depthLimit, supplies, hasResult, resultIf, readRuleWith, readRule, readRules, table, readTable, tableLimit}
+use Rattle.policy.specs.Read.{Read, found, readTwo, readLabel, readCondition, depthLimit, resultIf, readRuleWith, readRule, readRules, table, readTable, tableLimit}
 use Rattle.policy.specs.Write.{writeLabel, writeCondition, writeRule, writeTable, labelDepth, conditionDepth, LabelSupplied, ConditionSupplied, ResultWritable, RuleWritable, RulesWritable, TableWritable}
 use Rattle.policy.proofs.Tokens.{getElem-drop, tokenAt-drop, drop-next, drop-past}
 

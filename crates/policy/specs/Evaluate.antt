@@ -1,11 +1,11 @@
 -- Reading a rule table directly: what it says for a key.
 use Prim.Native.Nat.{ℕ, _-_}
-use mathlib.Core.Bool.{Bool, true, false, _&&_, _||_}
+use mathlib.Core.Bool.{Bool, true, _&&_, _||_}
 use mathlib.Core.Option.{Option, none, some}
 use lib.ListN.{getElem?}
 use Rattle.label.specs.Label as Label
 use Rattle.program.specs.Command.{Opcode, codeOf}
-use Rattle.machine.specs.Rule.{Input, Key, labelOf, Verdict, denied, allowedIf, Policy}
+use Rattle.machine.specs.Rule.{Key, labelOf, Verdict, denied, allowedIf, Policy}
 use Rattle.policy.specs.Expression.{LabelExpr, empty, place, input1, input2, input3, join, Condition, flows, always, both, either, Rule, Table}
 
 -- a label expression at a key: P, and the labels of the inputs

@@ -4,7 +4,4 @@ pub mod Token
 pub mod Read
 pub mod Write
 pub mod Standard
-pub mod Value
-pub mod Ask
 pub mod Row
-pub mod RowCode

@@ -7,9 +7,9 @@ use lib.Dec.{leb, ltb, eqb}
 use lib.ListN.{length, getElem?}
 use Rattle.program.specs.declared.Refusal.{Refusal}
 use Rattle.program.specs.Decode.{refusal}
-use Rattle.program.specs.Command.{Opcode, add, sub, pop, output, push, load, store, jump, bnz, call, ret, opcodes}
-use Rattle.policy.specs.declared.expression.Token.{Token}
-use Rattle.policy.specs.declared.expression.Token.the-variants.{Empty, Place, Input1, Input2, Input3, Join, Flows, True, And, Or, Nothing}
+use Rattle.program.specs.Command.{Opcode, opcodes, supplies, hasResult}
+use Rattle.policy.specs.declared.Token.{Token}
+use Rattle.policy.specs.declared.Token.the-variants.{Empty, Place, Input1, Input2, Input3, Join, Flows, True, And, Or, Nothing}
 use Rattle.policy.specs.Expression.{LabelExpr, empty, place, input1, input2, input3, join, Condition, flows, always, both, either, Rule, Table}
 use Rattle.policy.specs.Token.{tokenAt}
 
@@ -74,34 +74,6 @@ readCondition (suc depth) n bytes at = conditionFrom (tokenAt bytes at) at (read
 abbrev pub depthLimit : ℕ
 depthLimit = 8
 
--- how many inputs a command supplies: L1 up to that one may be named
-abbrev pub supplies : Opcode → ℕ
-supplies add = 2
-supplies sub = 2
-supplies pop = 1
-supplies output = 1
-supplies push = 0
-supplies load = 2
-supplies store = 3
-supplies jump = 1
-supplies bnz = 1
-supplies call = 1
-supplies ret = 1
-
--- Pop, Jump, Bnz and Ret have no result
-abbrev pub hasResult : Opcode → Bool
-hasResult add = true
-hasResult sub = true
-hasResult pop = false
-hasResult output = true
-hasResult push = true
-hasResult load = true
-hasResult store = true
-hasResult jump = false
-hasResult bnz = false
-hasResult call = true
-hasResult ret = false
-
 -- the byte 10; another one counts as misplaced
 abbrev pub emptyByte : Option ℕ → (at : ℕ) → Read LabelExpr
 emptyByte none at = fault at
@@ -127,6 +99,10 @@ readRule o bytes at = readRuleWith (supplies o) (hasResult o) bytes at
 abbrev pub prepend : Rule → Read Table → Read Table
 prepend r (fault at) = fault at
 prepend r (found rs end) = found (r ∷ rs) end
+
+-- a table has a rule for each command
+abbrev pub ruleCount : ℕ
+ruleCount = length opcodes
 
 -- the rules of commands in order
 unfoldable pub readRules : List Opcode → List ℕ → (at : ℕ) → Read Table

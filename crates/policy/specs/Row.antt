@@ -11,13 +11,12 @@ use Rattle.word.specs.declared.number.Natural.the-variants as Natural
 use Rattle.word.specs.Number.{naturalOf}
 use Rattle.label.specs.declared.Stored.{Stored}
 use Rattle.label.specs.declared.Stored.the-variants as Stored
-use Rattle.label.specs.Label.{InRange}
 use Rattle.label.specs.Word.{stored}
-use Rattle.program.specs.Command.{Opcode, opcodeOf, codeOf}
+use Rattle.program.specs.Command.{Opcode, opcodeOf, codeOf, supplies}
 use Rattle.machine.specs.Rule.{Input, present, missing, inputWord, Key, Verdict, denied, allowed}
 use Rattle.policy.specs.Expression.{Table}
 use Rattle.policy.specs.Evaluate.{evaluate}
-use Rattle.policy.specs.Read.{supplies, ReadTable, refused, table}
+use Rattle.policy.specs.Read.{ReadTable, refused, table}
 
 abbrev pub isZero : ℤ → Bool
 isZero (pos zero) = true
@@ -103,24 +102,10 @@ abbrev pub rowAnswer : ReadTable → List ℤ → Bool
 rowAnswer (refused r) ws = emptyRow ws
 rowAnswer (table t) ws = acceptedRow t ws
 
--- ════════════════════════════════════════════════════════════════════════════════════════════
--- The row of a key
--- ════════════════════════════════════════════════════════════════════════════════════════════
-
 -- the words of a key, with two more
 abbrev pub keyRow : Key → (place result : ℤ) → List ℤ
 keyRow k p r = pos (codeOf (k .opcode)) ∷ pos (k .pc) ∷ inputWord (k .input1) ∷ inputWord (k .input2) ∷ inputWord (k .input3) ∷ p ∷ r ∷ []
 
--- an input as its command has it: a label in range, or missing
-abbrev pub Marked : (supplied : Bool) → Input → Type 0
-Marked true (present l) = InRange l
-Marked true missing = ⊥
-Marked false (present l) = ⊥
-Marked false missing = Unit {0}
-
--- a key that has the marks of its command, and labels in range
-pub record WellMarked (k : Key) : Type 0 where
-  pub pc : InRange (k .pc)
-  pub input1 : Marked (leb 1 (supplies (k .opcode))) (k .input1)
-  pub input2 : Marked (leb 2 (supplies (k .opcode))) (k .input2)
-  pub input3 : Marked (leb 3 (supplies (k .opcode))) (k .input3)
+-- as a fault writes it: the −1 pair
+abbrev pub faultRow : Key → List ℤ
+faultRow k = keyRow k (negsuc 0) (negsuc 0)

@@ -5,8 +5,8 @@ use mathlib.Core.List.{List, [], _∷_}
 use mathlib.Core.Option.{Option, none, some}
 use lib.Dec.{leb}
 use lib.ListN.{getElem?}
-use Rattle.policy.specs.declared.expression.Token.{Token}
-use Rattle.policy.specs.declared.expression.Token.the-variants.{Empty, Place, Input1, Input2, Input3, Join, Flows, True, And, Or, Nothing}
+use Rattle.policy.specs.declared.Token.{Token}
+use Rattle.policy.specs.declared.Token.the-variants.{Empty, Place, Input1, Input2, Input3, Join, Flows, True, And, Or, Nothing}
 
 -- in the order of their bytes, from 10 to 19: empty, P, L1, L2, L3, join, flows, true, and, or
 abbrev pub tokens : List Token

@@ -4,9 +4,9 @@ use mathlib.Core.Path.{_≡_}
 use mathlib.Core.Bool.{Bool, true, false}
 use mathlib.Core.List.{List, [], _∷_, _++_}
 use lib.ListN.{length}
-use Rattle.program.specs.Command.{Opcode, opcodes}
+use Rattle.program.specs.Command.{Opcode, opcodes, supplies, hasResult}
 use Rattle.policy.specs.Expression.{LabelExpr, empty, place, input1, input2, input3, join, Condition, flows, always, both, either, Rule, Table}
-use Rattle.policy.specs.Read.{supplies, hasResult, depthLimit, tableLimit}
+use Rattle.policy.specs.Read.{depthLimit, tableLimit}
 
 unfoldable pub writeLabel : LabelExpr → List ℕ
 writeLabel empty = 0x10 ∷ []

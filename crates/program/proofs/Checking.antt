@@ -1,22 +1,20 @@
 -- Checking a program command by command: what is left to check, after what was counted, gives the whole program's answer.
 -- Assumes nothing.
-use mathlib.Core.Path.{_≡_, refl, sym, ap, subst, _∙_}
-use mathlib.Core.List.{List, [], _∷_}
+use mathlib.Core.Path.{_≡_, refl, sym, ap, _∙_}
+use mathlib.Core.List.{List, []}
 use Prim.Native.Nat.{ℕ, zero, suc, _+_, _-_, _<_, _≤_}
 use native.Mathlib.Nat.{zero-add, add-zero}
 use native.Mathlib.Omega.{arith}
 use lib.IntN.{ℤ}
 use lib.ListN.{length, drop, drop-of-length-le}
 use lib.Seq.{drop-cons}
-use lib.ListN.{getD}
 use Rattle.program.specs.declared.Command.{Command}
 use Rattle.program.specs.declared.Checked.{Checked}
 use Rattle.program.specs.declared.Checked.the-variants as Checked
-use Rattle.program.specs.declared.Fetched.{Fetched}
 use Rattle.program.specs.declared.Fetched.the-variants.{Is, Unknown, Cut}
 use Rattle.program.specs.Decode.{Decoded, refused, accepted, refusal, prepend, decodeFrom, decode, commandLimit, checkAnswer}
 use Rattle.program.specs.Fetch.{fetchOf}
-use Rattle.program.proofs.Fetching.{Next, Fetches, fetches}
+use Rattle.program.proofs.Fetching.{fetched-next, decode-unknown, decode-cut, decode-next}
 
 -- the answer, after k commands were counted
 abbrev pub counted : ℕ → Decoded → Checked
@@ -78,23 +76,20 @@ module _ (s : List ℕ) (at count : ℕ) (i : Invariant s at count) where
     answer-suc = ap (λ n. counted count (decodeFrom n at (drop at s))) (sym left-suc) ∙ i .answer
 
     pub invariant-unknown : fetchOf s at ≡ Unknown → Checked.Refused (refusal 2 at) ≡ checkAnswer (decode s)
-    invariant-unknown e = ap (counted count) (sym (subst (Fetches left s at) e (fetches left s at h))) ∙ answer-suc
+    invariant-unknown e = ap (counted count) (sym (decode-unknown s at h left e)) ∙ answer-suc
 
     pub invariant-cut : fetchOf s at ≡ Cut → Checked.Refused (refusal 3 at) ≡ checkAnswer (decode s)
-    invariant-cut e = ap (counted count) (sym (subst (Fetches left s at) e (fetches left s at h))) ∙ answer-suc
-
-    next-is : (z : ℤ) (next : ℕ) → fetchOf s at ≡ Is z next → Next left s at z next
-    next-is z next e = subst (Fetches left s at) e (fetches left s at h)
+    invariant-cut e = ap (counted count) (sym (decode-cut s at h left e)) ∙ answer-suc
 
     pub invariant-forward : (z : ℤ) (next : ℕ) → fetchOf s at ≡ Is z next → at < next
-    invariant-forward z next e = next-is z next e .forward
+    invariant-forward z next e = fetched-next s at h z next e .forward
 
     pub invariant-next : (z : ℤ) (next : ℕ) → fetchOf s at ≡ Is z next → Invariant s next (count + 1)
     unfolding left
     invariant-next z next e =
-        let n = next-is z next e in
+        let n = fetched-next s at h z next e in
         record {
           few = let k = i .few in omega arith;
           within = n .within;
-          answer = sym (counted-prepend count _ (remaining s next (count + 1))) ∙ ap (counted count) (sym (n .decoded)) ∙ answer-suc;
+          answer = sym (counted-prepend count _ (remaining s next (count + 1))) ∙ ap (counted count) (sym (decode-next s at h left n)) ∙ answer-suc;
         }

@@ -1,17 +1,22 @@
--- Codes and commands: a code stands for one opcode, an opcode has one code, and a command is its opcode with its operand.
+-- Codes and commands: a code stands for one opcode, an opcode has one code, and a command is its opcode with its operand. What holds of
+-- every row of the table of commands is a computed test of the list of opcodes (`opcode-all`).
 -- Assumes nothing.
 use mathlib.Core.Path.{_≡_, refl, sym, ap, _∙_}
+use mathlib.Core.Bool.{Bool, true, _&&_, _||_}
 use mathlib.Core.List.{List, [], _∷_}
 use mathlib.Core.Option.{Option, none, some}
-use Prim.Native.Nat.{ℕ, zero, suc, _+_, _<_, _≤_}
+use Prim.Native.Nat.{ℕ, zero, suc, _+_, _-_, _<_, _≤_}
+use native.Mathlib.Nat.{mod-eq-of-lt}
 use native.Mathlib.Omega.{arith}
 use lib.IntN.{ℤ, pos}
-use lib.ListN.{getElem?}
+use lib.Dec.{T, eqb, leb, leb→le, eqb→eq}
+use lib.ListN.{length, getElem?}
+use borrow.Author.Tests.{ne-eqb}
+use Rattle.word.specs.Wrap.{residue}
+use Rattle.word.proofs.Bool.{and-left, and-right}
 use Rattle.program.specs.declared.Command.{Command}
 use Rattle.program.specs.declared.Command.the-variants.{Add, Sub, Pop, Output, Push, Load, Store, Jump, Bnz, Call, Ret}
-use Rattle.program.specs.declared.Known.the-variants as Known
 use Rattle.program.specs.Command.{Opcode, add, sub, pop, output, push, load, store, jump, bnz, call, ret, opcodes, opcodeOf, codeOf, operandWidth, opcode, operand, command}
-use Rattle.program.specs.Space.{known, knownOpcode}
 
 -- an opcode is found under its code
 pub opcodeOf-codeOf : (o : Opcode) → opcodeOf (codeOf o) ≡ some o
@@ -28,23 +33,91 @@ opcodeOf-codeOf bnz = refl
 opcodeOf-codeOf call = refl
 opcodeOf-codeOf ret = refl
 
--- the opcodes of a list have the codes from i on
-Coded : ℕ → List Opcode → Type 0
-Coded i [] = Unit {0}
-Coded i (o ∷ os) = (codeOf o ≡ i) × Coded (suc i) os
+-- its rule's index in a table
+pub opcodes-code : (o : Opcode) → getElem? opcodes (codeOf o - 1) ≡ some o
+unfolding opcodeOf
+opcodes-code o = by (codeOf o) (opcodeOf-codeOf o)
+  where
+    by : (n : ℕ) → opcodeOf n ≡ some o → getElem? opcodes (n - 1) ≡ some o
+    by zero e = absurd (let z : _≡_ {A = ℕ} 0 1 = cc in omega arith)
+    by (suc i) e = let k : suc i - 1 ≡ i = omega arith in rw k e
 
-coded : (i : ℕ) (os : List Opcode) → Coded i os → (k : ℕ) (o : Opcode) → getElem? os k ≡ some o → codeOf o ≡ i + k
-unfolding Coded
-coded i [] h k o e = absurd (let z : _≡_ {A = ℕ} 0 1 = cc in omega arith)
-coded i (x ∷ os) h zero o e = let d : o ≡ x = cc in rw (d, h .0) (omega arith)
-coded i (x ∷ os) h (suc k) o e = let d = coded (suc i) os (h .1) k o e in omega arith
+-- ════════════════════════════════════════════════════════════════════════════════════════════
+-- Facts of the table
+-- ════════════════════════════════════════════════════════════════════════════════════════════
+
+abbrev pub all : (Opcode → Bool) → List Opcode → Bool
+all p [] = true
+all p (o ∷ os) = p o && all p os
+
+element-all : (p : Opcode → Bool) (os : List Opcode) (i : ℕ) (o : Opcode) → T (all p os) → getElem? os i ≡ some o → T (p o)
+element-all p [] i o t e = absurd (let z : _≡_ {A = ℕ} 0 1 = cc in omega arith)
+element-all p (x ∷ os) zero o t e = let d : x ≡ o = cc in rw d at (and-left (p x) (all p os) t)
+element-all p (x ∷ os) (suc i) o t e = element-all p os i o (and-right (p x) (all p os) t) e
+
+-- a test that every opcode of the list passes is passed by every opcode
+pub opcode-all : (p : Opcode → Bool) → T (all p opcodes) → (o : Opcode) → T (p o)
+opcode-all p t o = element-all p opcodes (codeOf o - 1) o t (opcodes-code o)
+
+pub code-least : (o : Opcode) → 1 ≤ codeOf o
+code-least o = leb→le 1 (codeOf o) (opcode-all (λ o. leb 1 (codeOf o)) tt o)
+
+pub code-most : (o : Opcode) → codeOf o ≤ length opcodes
+code-most o = leb→le (codeOf o) (length opcodes) (opcode-all (λ o. leb (codeOf o) (length opcodes)) tt o)
+
+-- a code is read back from its word
+pub code-residue : (o : Opcode) → residue 64 (pos (codeOf o)) ≡ codeOf o
+unfolding residue
+code-residue o = mod-eq-of-lt (omega (arith, code-most o))
+
+-- an operand has eight bytes, two or none
+abbrev width-known : ℕ → Bool
+width-known w = eqb w 8 || (eqb w 2 || eqb w 0)
+
+pub width-none : (o : Opcode) → (operandWidth o ≡ 8 → ⊥) → (operandWidth o ≡ 2 → ⊥) → operandWidth o ≡ 0
+width-none o f g =
+    let w = operandWidth o in
+    eqb→eq w 0 (rw (ne-eqb w 8 f, ne-eqb w 2 g) at (opcode-all (λ o. width-known (operandWidth o)) tt o))
+
+-- ════════════════════════════════════════════════════════════════════════════════════════════
+-- What a code stands for
+-- ════════════════════════════════════════════════════════════════════════════════════════════
+
+-- the opcodes of a list have the codes from i on
+abbrev coded : ℕ → List Opcode → Bool
+coded i [] = true
+coded i (o ∷ os) = eqb (codeOf o) i && coded (suc i) os
+
+element-coded : (i : ℕ) (os : List Opcode) → T (coded i os) → (k : ℕ) (o : Opcode) → getElem? os k ≡ some o → codeOf o ≡ i + k
+element-coded i [] t k o e = absurd (let z : _≡_ {A = ℕ} 0 1 = cc in omega arith)
+element-coded i (x ∷ os) t zero o e =
+    let d : x ≡ o = cc in
+    let h = eqb→eq (codeOf x) i (and-left (eqb (codeOf x) i) (coded (suc i) os) t) in
+    ap codeOf (sym d) ∙ h ∙ omega arith
+element-coded i (x ∷ os) t (suc k) o e =
+    let d = element-coded (suc i) os (and-right (eqb (codeOf x) i) (coded (suc i) os) t) k o e in omega arith
 
 -- the opcode that is found under a code has that code
 pub codeOf-opcodeOf : (n : ℕ) (o : Opcode) → opcodeOf n ≡ some o → codeOf o ≡ n
-unfolding opcodeOf Coded
+unfolding opcodeOf
 codeOf-opcodeOf zero o e = absurd (let z : _≡_ {A = ℕ} 0 1 = cc in omega arith)
-codeOf-opcodeOf (suc k) o e =
-    let d = coded 1 opcodes (refl, (refl, (refl, (refl, (refl, (refl, (refl, (refl, (refl, (refl, (refl, tt))))))))))) k o e in omega arith
+codeOf-opcodeOf (suc k) o e = let d = element-coded 1 opcodes tt k o e in omega arith
+
+-- a code that is no opcode's stands for none
+pub opcodeOf-none : (n : ℕ) → ((o : Opcode) → n ≡ codeOf o → ⊥) → opcodeOf n ≡ none
+opcodeOf-none n h = none-is (opcodeOf n) refl
+  where
+    none-is : (x : Option Opcode) → opcodeOf n ≡ x → opcodeOf n ≡ none
+    none-is none e = e
+    none-is (some o) e = absurd (h o (sym (codeOf-opcodeOf n o e)))
+
+-- the codes are those from 1 to the number of opcodes
+pub opcodeOf-outside : (n : ℕ) → (1 ≤ n → length opcodes < n) → opcodeOf n ≡ none
+opcodeOf-outside n h = opcodeOf-none n (λ o e. let k = h (omega (arith, code-least o)) in omega (arith, code-most o))
+
+-- ════════════════════════════════════════════════════════════════════════════════════════════
+-- A command and its parts
+-- ════════════════════════════════════════════════════════════════════════════════════════════
 
 -- a command is its opcode with its operand
 pub command-whole : (c : Command) → command (opcode c) (operand c) ≡ c
@@ -60,32 +133,25 @@ command-whole (Bnz z) = refl
 command-whole Call = refl
 command-whole Ret = refl
 
+-- an opcode and an operand make a command that has both, if the operand is 0 where there are no bytes for it
+abbrev Made : Opcode → ℤ → Type 0
+Made o z = (opcode (command o z) ≡ o) × ((operandWidth o ≡ 0 → z ≡ pos 0) → operand (command o z) ≡ z)
+
+made : (o : Opcode) (z : ℤ) → Made o z
+made add z = (refl, λ h. sym (h refl))
+made sub z = (refl, λ h. sym (h refl))
+made pop z = (refl, λ h. sym (h refl))
+made output z = (refl, λ h. sym (h refl))
+made push z = (refl, λ h. refl)
+made load z = (refl, λ h. sym (h refl))
+made store z = (refl, λ h. sym (h refl))
+made jump z = (refl, λ h. sym (h refl))
+made bnz z = (refl, λ h. refl)
+made call z = (refl, λ h. sym (h refl))
+made ret z = (refl, λ h. sym (h refl))
+
 pub opcode-command : (o : Opcode) (z : ℤ) → opcode (command o z) ≡ o
-opcode-command add z = refl
-opcode-command sub z = refl
-opcode-command pop z = refl
-opcode-command output z = refl
-opcode-command push z = refl
-opcode-command load z = refl
-opcode-command store z = refl
-opcode-command jump z = refl
-opcode-command bnz z = refl
-opcode-command call z = refl
-opcode-command ret z = refl
+opcode-command o z = made o z .0
 
--- a code that is an opcode's stands for its command
-pub known-code : (o : Opcode) (n : ℕ) (z : ℤ) → n ≡ codeOf o → Known.Is (command o z) ≡ knownOpcode (opcodeOf n) z
-known-code o n z e = rw (e, opcodeOf-codeOf o)
-
--- no other code does
-pub opcodeOf-none : (n : ℕ) → ((o : Opcode) → n ≡ codeOf o → ⊥) → opcodeOf n ≡ none
-opcodeOf-none n h = none-is (opcodeOf n) refl
-  where
-    none-is : (x : Option Opcode) → opcodeOf n ≡ x → opcodeOf n ≡ none
-    none-is none e = e
-    none-is (some o) e = absurd (h o (sym (codeOf-opcodeOf n o e)))
-
--- the two words of a command give it back
-pub known-words : (c : Command) → known (pos (codeOf (opcode c))) (operand c) ≡ Known.Is c
-unfolding known
-known-words c = rw (opcodeOf-codeOf (opcode c), command-whole c)
+pub operand-command : (o : Opcode) (z : ℤ) → (operandWidth o ≡ 0 → z ≡ pos 0) → operand (command o z) ≡ z
+operand-command o z h = made o z .1 h

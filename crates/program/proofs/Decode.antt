@@ -1,26 +1,24 @@
 -- Laws of decoding: at most so many commands, one command at a time as code reads it, and the way back from the bytes that encode a program.
 -- Assumes nothing.
-use mathlib.Core.Path.{_≡_, refl, sym, ap, _∙_, subst}
+use mathlib.Core.Path.{_≡_, refl}
 use mathlib.Core.Bool.{Bool, true, false}
-use mathlib.Core.List.{List, [], _∷_, _++_}
-use mathlib.Core.Option.{Option, none, some}
-use Prim.Native.Nat.{ℕ, zero, suc, _+_, _<_, _≤_, _-_, _*_}
+use mathlib.Core.List.{List, [], _∷_}
+use Prim.Native.Nat.{ℕ, zero, suc, _+_, _≤_, _-_, _*_}
 use native.Mathlib.Nat.{zero-add, add-comm}
 use native.Mathlib.Omega.{arith}
 use lib.IntN.{ℤ, pos}
 use lib.Dec.{leb}
-use lib.ListN.{length, drop, getD, take, length-drop}
-use lib.Seq.{drop-cons, drop-drop}
+use lib.ListN.{length, drop, length-drop}
 use borrow.Author.Tests.{leb-true, le-leb}
-use Rattle.word.specs.declared.field.Field.{Field}
-use Rattle.word.specs.declared.field.Field.the-variants.{Number, Cut}
-use Rattle.word.specs.Field.{signedAt, bitsAt, whole}
+use Rattle.word.specs.declared.field.Field.the-variants.{Number}
+use Rattle.word.specs.Field.{signedAt, bitsAt}
+use Rattle.word.specs.Field as Field
 use Rattle.word.specs.Wrap.{signed}
 use Rattle.word.specs.Digits.{valueOf}
 use Rattle.word.proofs.Laws.Test.{leb-shift}
 use Rattle.program.specs.declared.Command.{Command}
-use Rattle.program.specs.Command.{Opcode, opcodeOf, operandWidth, command}
-use Rattle.program.specs.Decode.{Decoded, refused, accepted, refusal, prepend, decodeOperand, decodeOpcode, decodeFrom}
+use Rattle.program.specs.Command.{opcodeOf}
+use Rattle.program.specs.Decode.{First, unknown, cut, whole, firstOpcode, Decoded, refused, accepted, prepend, decodeFirst, decodeFrom}
 
 -- the commands of an accepted program, none of a refused one
 abbrev pub commandsOf : Decoded → List Command
@@ -31,14 +29,11 @@ prepend-length : (c : Command) (d : Decoded) (n : ℕ) → length (commandsOf d)
 prepend-length c (refused r) n h = omega arith
 prepend-length c (accepted cs) n h = omega arith
 
-module _ (at : ℕ) (s : List ℕ) (rest : ℕ → Decoded) where
-  operand-length : (o : Opcode) (f : Field) (n : ℕ) → ((w : ℕ) → length (commandsOf (rest w)) ≤ n) → length (commandsOf (decodeOperand o at f rest)) ≤ suc n
-  operand-length o Cut n h = omega arith
-  operand-length o (Number z) n h = prepend-length (command o z) (rest (operandWidth o)) n (h (operandWidth o))
-
-  opcode-length : (o : Option Opcode) (n : ℕ) → ((w : ℕ) → length (commandsOf (rest w)) ≤ n) → length (commandsOf (decodeOpcode o at s rest)) ≤ suc n
-  opcode-length none n h = omega arith
-  opcode-length (some o) n h = operand-length o (signedAt (operandWidth o) s 0) n h
+first-length : (x : First) (at n : ℕ) (rest : ℕ → Decoded) → ((w : ℕ) → length (commandsOf (rest w)) ≤ n)
+    → length (commandsOf (decodeFirst x at rest)) ≤ suc n
+first-length unknown at n rest h = omega arith
+first-length cut at n rest h = omega arith
+first-length (whole c w) at n rest h = prepend-length c (rest w) n (h w)
 
 -- at most as many commands as may follow
 pub decode-length : (left at : ℕ) (s : List ℕ) → length (commandsOf (decodeFrom left at s)) ≤ left
@@ -47,7 +42,8 @@ decode-length zero at [] = omega arith
 decode-length zero at (b ∷ s) = omega arith
 decode-length (suc left) at [] = omega arith
 decode-length (suc left) at (b ∷ s) =
-    opcode-length at s (λ w. decodeFrom left (at + suc w) (drop w s)) (opcodeOf b) left (λ w. decode-length left (at + suc w) (drop w s))
+    first-length (firstOpcode (opcodeOf b) s) at left (λ w. decodeFrom left (at + suc w) (drop w s))
+    (λ w. decode-length left (at + suc w) (drop w s))
 
 -- a field in what is left from a position on is the field at that position
 pub signedAt-drop : (k : ℕ) (s : List ℕ) (p : ℕ) → p ≤ length s → signedAt k (drop p s) 0 ≡ signedAt k s p
@@ -59,7 +55,7 @@ pub signedAt-none : (s : List ℕ) (p : ℕ) (z : ℤ) → signedAt 0 s p ≡ Nu
 unfolding signedAt bitsAt signed valueOf
 signedAt-none s p z e = none-whole (leb (p + 0) (length s)) e
   where
-    none-whole : (b : Bool) → whole b (pos 0) ≡ Number z → z ≡ pos 0
+    none-whole : (b : Bool) → Field.whole b (pos 0) ≡ Number z → z ≡ pos 0
     none-whole true e = cc
     none-whole false e = absurd (let z : _≡_ {A = ℕ} 0 1 = cc in omega arith)
 
@@ -72,6 +68,6 @@ pub signedAt-whole : (k : ℕ) (s : List ℕ) (p : ℕ) (z : ℤ) → signedAt k
 unfolding signedAt
 signedAt-whole k s p z e = go (leb (p + k) (length s)) refl e
   where
-    go : (b : Bool) → leb (p + k) (length s) ≡ b → whole b (signed (8 * k) (bitsAt k s p)) ≡ Number z → p + k ≤ length s
+    go : (b : Bool) → leb (p + k) (length s) ≡ b → Field.whole b (signed (8 * k) (bitsAt k s p)) ≡ Number z → p + k ≤ length s
     go true t e = leb-true (p + k) (length s) t
     go false t e = absurd (let z : _≡_ {A = ℕ} 0 1 = cc in omega arith)

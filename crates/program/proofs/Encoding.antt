@@ -5,7 +5,7 @@ use mathlib.Core.List.{List, [], _∷_, _++_}
 use mathlib.Core.Option.{Option, none, some}
 use Prim.Native.Nat.{ℕ, zero, suc, _+_, _*_, _<_, _≤_}
 use native.Mathlib.Omega.{arith}
-use lib.IntN.{ℤ, pos}
+use lib.IntN.{ℤ}
 use lib.ListN.{length, drop, getD}
 use lib.Seq.{drop-at, getD-drop}
 use Rattle.word.specs.declared.field.Field.{Field}
@@ -15,31 +15,20 @@ use Rattle.word.specs.Field.{signedAt, bitsAt, bytesOf}
 use Rattle.word.proofs.Laws.Wrap.{signed-range}
 use Rattle.word.proofs.Laws.Field as Field
 use Rattle.program.specs.declared.Command.{Command}
-use Rattle.program.specs.declared.Command.the-variants.{Add, Sub, Pop, Output, Push, Load, Store, Jump, Bnz, Call, Ret}
-use Rattle.program.specs.Command.{Opcode, add, sub, pop, output, push, load, store, jump, bnz, call, ret, opcodeOf, codeOf, operandWidth, opcode, operand, command}
-use Rattle.program.specs.Decode.{Decoded, refused, accepted, prepend, decodeOperand, decodeOpcode, decodeFrom, decode, commandLimit}
-use Rattle.program.specs.Encode.{Writable, AllWritable, encodeCommand, encode}
-use Rattle.program.proofs.Codes.{opcodeOf-codeOf, command-whole}
-use Rattle.program.proofs.Decode.{commandsOf, signedAt-empty, signedAt-whole}
+use Rattle.program.specs.Command.{Opcode, opcodeOf, operandWidth, opcode, operand, command}
+use Rattle.program.specs.Decode.{First, unknown, cut, whole, firstOperand, firstOpcode, Decoded, refused, accepted, prepend, decodeFirst, decodeFrom, decode, commandLimit}
+use Rattle.program.specs.Encode.{FitsBytes, Writable, AllWritable, encode}
+use Rattle.program.proofs.Codes.{opcodeOf-codeOf, command-whole, opcode-command, operand-command}
+use Rattle.program.proofs.Decode.{commandsOf, signedAt-none, signedAt-empty, signedAt-whole}
 
 -- ════════════════════════════════════════════════════════════════════════════════════════════
 -- From commands to bytes and back
 -- ════════════════════════════════════════════════════════════════════════════════════════════
 
--- the bytes of an operand hold it
-operand-bytes : (c : Command) → Writable c → (rest : List ℕ)
-    → signedAt (operandWidth (opcode c)) (bytesOf (operandWidth (opcode c)) (operand c) ++ rest) 0 ≡ Number (operand c)
-operand-bytes Add w rest = signedAt-empty _ 0 (omega arith)
-operand-bytes Sub w rest = signedAt-empty _ 0 (omega arith)
-operand-bytes Pop w rest = signedAt-empty _ 0 (omega arith)
-operand-bytes Output w rest = signedAt-empty _ 0 (omega arith)
-operand-bytes (Push z) w rest = Field.signedAt-bytes 8 [] rest z (omega arith) w
-operand-bytes Load w rest = signedAt-empty _ 0 (omega arith)
-operand-bytes Store w rest = signedAt-empty _ 0 (omega arith)
-operand-bytes Jump w rest = signedAt-empty _ 0 (omega arith)
-operand-bytes (Bnz z) w rest = Field.signedAt-bytes 2 [] rest z (omega arith) w
-operand-bytes Call w rest = signedAt-empty _ 0 (omega arith)
-operand-bytes Ret w rest = signedAt-empty _ 0 (omega arith)
+-- the bytes of a number that fits them hold it
+fits-bytes : (k : ℕ) (z : ℤ) → FitsBytes k z → (rest : List ℕ) → signedAt k (bytesOf k z ++ rest) 0 ≡ Number z
+fits-bytes zero z w rest = signedAt-empty _ 0 (omega arith) ∙ ap Number (sym w)
+fits-bytes (suc k) z w rest = Field.signedAt-bytes (suc k) [] rest z (omega arith) w
 
 decode-from : (cs : List Command) (left at : ℕ) → length cs ≤ left → AllWritable cs → decodeFrom left at (encode cs) ≡ accepted cs
 unfolding decodeFrom encode
@@ -51,7 +40,7 @@ decode-from (c ∷ cs) (suc left) at h w =
     let z = operand c in
     rw (
       opcodeOf-codeOf o,
-      operand-bytes c (w .0) (encode cs),
+      fits-bytes (operandWidth o) z (w .0) (encode cs),
       drop-at (bytesOf (operandWidth o) z) (encode cs) (operandWidth o) (Field.bytes-length (operandWidth o) z),
       decode-from cs left (at + suc (operandWidth o)) (omega arith) (w .1),
       command-whole c,
@@ -76,31 +65,37 @@ field-signed k s z p b e =
     let d : z ≡ signed (8 * k) (bitsAt k s 0) = cc (Field.signedAt-whole k s 0 h) in
     rw d (signed-range (8 * k) (bitsAt k s 0) (omega arith) (Field.bitsAt-lt k s 0 h b))
 
+field-fits : (k : ℕ) (s : List ℕ) (z : ℤ) → Bytes s → signedAt k s 0 ≡ Number z → FitsBytes k z
+field-fits zero s z b e = signedAt-none s 0 z e
+field-fits (suc k) s z b e = field-signed (suc k) s z (omega arith) b e
+
 operand-writable : (o : Opcode) (s : List ℕ) (z : ℤ) → Bytes s → signedAt (operandWidth o) s 0 ≡ Number z → Writable (command o z)
-operand-writable add s z b e = tt
-operand-writable sub s z b e = tt
-operand-writable pop s z b e = tt
-operand-writable output s z b e = tt
-operand-writable push s z b e = field-signed 8 s z (omega arith) b e
-operand-writable load s z b e = tt
-operand-writable store s z b e = tt
-operand-writable jump s z b e = tt
-operand-writable bnz s z b e = field-signed 2 s z (omega arith) b e
-operand-writable call s z b e = tt
-operand-writable ret s z b e = tt
+operand-writable o s z b e =
+    rw (opcode-command o z, operand-command o z (λ w. signedAt-none s 0 z (rw w at e))) (field-fits (operandWidth o) s z b e)
 
 prepend-writable : (c : Command) (d : Decoded) → Writable c → AllWritable (commandsOf d) → AllWritable (commandsOf (prepend c d))
 prepend-writable c (refused r) w h = tt
 prepend-writable c (accepted cs) w h = (w, h)
 
-module _ (at : ℕ) (s : List ℕ) (b : Bytes s) (rest : ℕ → Decoded) (h : (w : ℕ) → AllWritable (commandsOf (rest w))) where
-  writable-operand : (o : Opcode) (f : Field) → signedAt (operandWidth o) s 0 ≡ f → AllWritable (commandsOf (decodeOperand o at f rest))
-  writable-operand o Cut e = tt
-  writable-operand o (Number z) e = prepend-writable (command o z) (rest (operandWidth o)) (operand-writable o s z b e) (h (operandWidth o))
+-- and so can the command at the start of what was read
+abbrev FirstWritable : First → Type 0
+FirstWritable unknown = Unit {0}
+FirstWritable cut = Unit {0}
+FirstWritable (whole c w) = Writable c
 
-  writable-opcode : (o : Option Opcode) → AllWritable (commandsOf (decodeOpcode o at s rest))
-  writable-opcode none = tt
-  writable-opcode (some o) = writable-operand o (signedAt (operandWidth o) s 0) refl
+operand-first : (o : Opcode) (s : List ℕ) → Bytes s → (f : Field) → signedAt (operandWidth o) s 0 ≡ f → FirstWritable (firstOperand o f)
+operand-first o s b Cut e = tt
+operand-first o s b (Number z) e = operand-writable o s z b e
+
+opcode-first : (x : Option Opcode) (s : List ℕ) → Bytes s → FirstWritable (firstOpcode x s)
+opcode-first none s b = tt
+opcode-first (some o) s b = operand-first o s b (signedAt (operandWidth o) s 0) refl
+
+first-writable : (x : First) (at : ℕ) (rest : ℕ → Decoded) → FirstWritable x → ((w : ℕ) → AllWritable (commandsOf (rest w)))
+    → AllWritable (commandsOf (decodeFirst x at rest))
+first-writable unknown at rest f h = tt
+first-writable cut at rest f h = tt
+first-writable (whole c w) at rest f h = prepend-writable c (rest w) f (h w)
 
 bytes-tail : (b : ℕ) (s : List ℕ) → Bytes (b ∷ s) → Bytes s
 bytes-tail b s h i = h (suc i)
@@ -115,6 +110,6 @@ decode-writable zero at [] h = tt
 decode-writable zero at (b ∷ s) h = tt
 decode-writable (suc left) at [] h = tt
 decode-writable (suc left) at (b ∷ s) h =
-    writable-opcode at s (bytes-tail b s h) (λ w. decodeFrom left (at + suc w) (drop w s))
+    first-writable (firstOpcode (opcodeOf b) s) at (λ w. decodeFrom left (at + suc w) (drop w s))
+    (opcode-first (opcodeOf b) s (bytes-tail b s h))
     (λ w. decode-writable left (at + suc w) (drop w s) (bytes-drop w s (bytes-tail b s h)))
-    (opcodeOf b)

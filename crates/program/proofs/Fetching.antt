@@ -1,9 +1,10 @@
 -- Decoding one command at a time, as code reads it: what fetching at a position says of the program from there on.
 -- Assumes nothing.
-use mathlib.Core.Path.{_≡_, refl, sym, ap, _∙_}
+use mathlib.Core.Path.{_≡_, refl, sym, ap, subst, _∙_}
+use mathlib.Core.Bool.{Bool}
 use mathlib.Core.List.{List, [], _∷_}
 use mathlib.Core.Option.{Option, none, some}
-use Prim.Native.Nat.{ℕ, zero, suc, _+_, _<_, _≤_}
+use Prim.Native.Nat.{ℕ, suc, _+_, _<_, _≤_}
 use native.Mathlib.Nat.{add-zero}
 use native.Mathlib.Numerals.{add-one}
 use native.Mathlib.Omega.{arith}
@@ -15,128 +16,141 @@ use Rattle.word.specs.declared.field.Field.the-variants as Field
 use Rattle.word.specs.Field.{signedAt}
 use Rattle.program.specs.declared.Fetched.{Fetched}
 use Rattle.program.specs.declared.Fetched.the-variants.{Is, Unknown, Cut}
-use Rattle.program.specs.declared.Command.{Command}
-use Rattle.program.specs.declared.Known.the-variants as Known
-use Rattle.program.specs.Space.{knownOpcode}
-use Rattle.program.specs.Command.{Opcode, add, sub, pop, output, push, load, store, jump, bnz, call, ret, opcodeOf, codeOf, operandWidth, command, operand}
-use Rattle.program.specs.Decode.{Decoded, refused, accepted, refusal, prepend, decodeOperand, decodeOpcode, decodeFrom}
-use Rattle.program.specs.Fetch.{fetchField, fetchOpcode, fetchOf}
-use Rattle.program.proofs.Codes.{codeOf-opcodeOf}
+use Rattle.program.specs.declared.Shape.the-variants as Shape
+use Rattle.program.specs.Command.{Opcode, opcodeOf, codeOf, operandWidth, command, operand}
+use Rattle.program.specs.Decode.{First, unknown, cut, whole, firstOpcode, refused, refusal, prepend, decodeFirst, decodeFrom}
+use Rattle.program.specs.Space.{takeFirst, readable}
+use Rattle.program.specs.Fetch.{shapeOf, fetchField, fetchOpcode, fetchOf}
+use Rattle.program.proofs.Codes.{codeOf-opcodeOf, operand-command, width-none}
 use Rattle.program.proofs.Decode.{signedAt-drop, signedAt-none, signedAt-empty, signedAt-whole}
 
 -- the operand of a command is its field, which is 0 where it has no bytes
 operand-field : (o : Opcode) (s : List ℕ) (p : ℕ) (z : ℤ) → signedAt (operandWidth o) s p ≡ Field.Number z → operand (command o z) ≡ z
-operand-field add s p z e = sym (signedAt-none s p z e)
-operand-field sub s p z e = sym (signedAt-none s p z e)
-operand-field pop s p z e = sym (signedAt-none s p z e)
-operand-field output s p z e = sym (signedAt-none s p z e)
-operand-field push s p z e = refl
-operand-field load s p z e = sym (signedAt-none s p z e)
-operand-field store s p z e = sym (signedAt-none s p z e)
-operand-field jump s p z e = sym (signedAt-none s p z e)
-operand-field bnz s p z e = refl
-operand-field call s p z e = sym (signedAt-none s p z e)
-operand-field ret s p z e = sym (signedAt-none s p z e)
+operand-field o s p z e = operand-command o z (λ w. signedAt-none s p z (rw w at e))
 
--- what fetching says of the program from a position on, of which one command more than `left` may follow
-pub record Next (left : ℕ) (s : List ℕ) (at : ℕ) (z : ℤ) (next : ℕ) : Type 0 where
+-- what stands at a position
+abbrev firstAt : List ℕ → ℕ → First
+firstAt s at = firstOpcode (opcodeOf (getD s at 0)) (drop (suc at) s)
+
+-- a command that was fetched there
+pub record Next (s : List ℕ) (at : ℕ) (z : ℤ) (next : ℕ) : Type 0 where
   pub opcode : Opcode
   pub code : codeOf opcode ≡ getD s at 0
   pub operand-is : operand (command opcode z) ≡ z
   pub forward : at < next
   pub within : next ≤ length s
-  pub decoded : decodeFrom (suc left) at (drop at s) ≡ prepend (command opcode z) (decodeFrom left next (drop next s))
+  pub next-is : at + 1 + operandWidth opcode ≡ next
+  pub first : firstAt s at ≡ whole (command opcode z) (operandWidth opcode)
 
-abbrev pub Fetches : ℕ → List ℕ → ℕ → Fetched → Type 0
-Fetches left s at Unknown = decodeFrom (suc left) at (drop at s) ≡ refused (refusal 2 at)
-Fetches left s at Cut = decodeFrom (suc left) at (drop at s) ≡ refused (refusal 3 at)
-Fetches left s at (Is z next) = Next left s at z next
+-- what fetching says of what stands there
+abbrev Fetches : List ℕ → ℕ → Fetched → Type 0
+Fetches s at Unknown = firstAt s at ≡ unknown
+Fetches s at Cut = firstAt s at ≡ cut
+Fetches s at (Is z next) = Next s at z next
 
-module _ (left : ℕ) (s : List ℕ) (at : ℕ) (h : at < length s) where
-  rest : ℕ → Decoded
-  rest w = decodeFrom left (at + suc w) (drop w (drop (suc at) s))
+module _ (s : List ℕ) (at : ℕ) (h : at < length s) where
+  field-at : (k : ℕ) → signedAt k (drop (suc at) s) 0 ≡ signedAt k s (at + 1)
+  field-at k = signedAt-drop k s (suc at) h ∙ ap (signedAt k s) (sym (add-one at))
 
-  step-opcode : decodeFrom (suc left) at (drop at s) ≡ decodeOpcode (opcodeOf (getD s at 0)) at (drop (suc at) s) rest
-  unfolding decodeFrom rest
-  step-opcode = rw (drop-cons s at 0 h)
-
-  rest-next : (w : ℕ) → rest w ≡ decodeFrom left (at + 1 + w) (drop (at + 1 + w) s)
-  unfolding rest
-  rest-next w =
-      let e : at + suc w ≡ at + 1 + w = omega arith in
-      let d : suc at + w ≡ at + 1 + w = omega arith in
-      rw (drop-drop w (suc at) s, e, d)
-
-  fetches-field : (o : Opcode) → codeOf o ≡ getD s at 0
-      → decodeFrom (suc left) at (drop at s) ≡ decodeOperand o at (signedAt (operandWidth o) s (at + 1)) rest
-      → (f : Field) → signedAt (operandWidth o) s (at + 1) ≡ f
-      → Fetches left s at (fetchField f (at + 1 + operandWidth o))
-  fetches-field o k d Field.Cut e = d ∙ ap (λ f. decodeOperand o at f rest) e
-  fetches-field o k d (Field.Number z) e =
+  fetches-field : (o : Opcode) → opcodeOf (getD s at 0) ≡ some o → (f : Field) → signedAt (operandWidth o) s (at + 1) ≡ f
+      → Fetches s at (fetchField f (at + 1 + operandWidth o))
+  fetches-field o k Field.Cut e = rw (k, field-at (operandWidth o), e)
+  fetches-field o k (Field.Number z) e =
       record {
         opcode = o;
-        code = k;
+        code = codeOf-opcodeOf (getD s at 0) o k;
         operand-is = operand-field o s (at + 1) z e;
         forward = omega arith;
         within = signedAt-whole (operandWidth o) s (at + 1) z e;
-        decoded = d ∙ ap (λ f. decodeOperand o at f rest) e ∙ ap (prepend (command o z)) (rest-next (operandWidth o));
+        next-is = refl;
+        first = rw (k, field-at (operandWidth o), e);
       }
 
-  fetches-opcode : (x : Option Opcode) → opcodeOf (getD s at 0) ≡ x → Fetches left s at (fetchOpcode x s (at + 1))
-  fetches-opcode none e = step-opcode ∙ ap (λ x. decodeOpcode x at (drop (suc at) s) rest) e
-  fetches-opcode (some o) e =
-      fetches-field o (codeOf-opcodeOf (getD s at 0) o e)
-      (step-opcode
-      ∙ ap (λ x. decodeOpcode x at (drop (suc at) s) rest) e
-      ∙ ap (λ f. decodeOperand o at f rest) (signedAt-drop (operandWidth o) s (suc at) h ∙ ap (signedAt (operandWidth o) s) (sym (add-one at))))
-      (signedAt (operandWidth o) s (at + 1)) refl
+  fetches-opcode : (x : Option Opcode) → opcodeOf (getD s at 0) ≡ x → Fetches s at (fetchOpcode x s (at + 1))
+  fetches-opcode none e = rw e
+  fetches-opcode (some o) e = fetches-field o e (signedAt (operandWidth o) s (at + 1)) refl
 
-  pub fetches : Fetches left s at (fetchOf s at)
+  fetches : (x : Fetched) → fetchOf s at ≡ x → Fetches s at x
   unfolding fetchOf
-  fetches = fetches-opcode (opcodeOf (getD s at 0)) refl
+  fetches x e = subst (Fetches s at) e (fetches-opcode (opcodeOf (getD s at 0)) refl)
+
+  pub fetched-next : (z : ℤ) (next : ℕ) → fetchOf s at ≡ Is z next → Next s at z next
+  fetched-next z next e = fetches (Is z next) e
+
+  -- from there on: what a program is read as, of which one command more than `left` may follow
+  module _ (left : ℕ) where
+    decode-by : (x : First) → firstAt s at ≡ x
+        → decodeFrom (suc left) at (drop at s) ≡ decodeFirst x at (λ w. decodeFrom left (at + suc w) (drop w (drop (suc at) s)))
+    unfolding decodeFrom
+    decode-by x e = rw (drop-cons s at 0 h, e)
+
+    pub decode-unknown : fetchOf s at ≡ Unknown → decodeFrom (suc left) at (drop at s) ≡ refused (refusal 2 at)
+    decode-unknown e = decode-by unknown (fetches Unknown e)
+
+    pub decode-cut : fetchOf s at ≡ Cut → decodeFrom (suc left) at (drop at s) ≡ refused (refusal 3 at)
+    decode-cut e = decode-by cut (fetches Cut e)
+
+    pub decode-next : {z : ℤ} {next : ℕ} (n : Next s at z next)
+        → decodeFrom (suc left) at (drop at s) ≡ prepend (command (n .opcode) z) (decodeFrom left next (drop next s))
+    decode-next n =
+        let w = operandWidth (n .opcode) in
+        let e : at + suc w ≡ at + 1 + w = omega arith in
+        let d : suc at + w ≡ at + 1 + w = omega arith in
+        decode-by _ (n .first) ∙ rw (drop-drop w (suc at) s, e, d, n .next-is)
+
+  -- and what can be read of it, of which one command more than `room` has room
+  module _ (room : ℕ) where
+    readable-by : (x : First) → firstAt s at ≡ x
+        → readable (suc room) (drop at s) ≡ takeFirst x (λ w. readable room (drop w (drop (suc at) s)))
+    unfolding readable
+    readable-by x e = rw (drop-cons s at 0 h, e)
+
+    pub readable-unknown : fetchOf s at ≡ Unknown → readable (suc room) (drop at s) ≡ []
+    readable-unknown e = readable-by unknown (fetches Unknown e)
+
+    pub readable-cut : fetchOf s at ≡ Cut → readable (suc room) (drop at s) ≡ []
+    readable-cut e = readable-by cut (fetches Cut e)
+
+    pub readable-next : {z : ℤ} {next : ℕ} (n : Next s at z next)
+        → readable (suc room) (drop at s) ≡ command (n .opcode) z ∷ readable room (drop next s)
+    readable-next n =
+        let w = operandWidth (n .opcode) in
+        let d : suc at + w ≡ at + 1 + w = omega arith in
+        readable-by _ (n .first) ∙ rw (drop-drop w (suc at) s, d, n .next-is)
 
 -- ════════════════════════════════════════════════════════════════════════════════════════════
--- Fetching by the code: 5 and 9 have operands, the other commands none
+-- Fetching by the shape: an operand of eight bytes or two, or none
 -- ════════════════════════════════════════════════════════════════════════════════════════════
-
-width-none : (o : Opcode) → (codeOf o ≡ 5 → ⊥) → (codeOf o ≡ 9 → ⊥) → operandWidth o ≡ 0
-width-none add f g = refl
-width-none sub f g = refl
-width-none pop f g = refl
-width-none output f g = refl
-width-none push f g = absurd (f refl)
-width-none load f g = refl
-width-none store f g = refl
-width-none jump f g = refl
-width-none bnz f g = absurd (g refl)
-width-none call f g = refl
-width-none ret f g = refl
 
 module _ (s : List ℕ) (at : ℕ) where
-  pub fetch-push : getD s at 0 ≡ 5 → fetchField (signedAt 8 s (at + 1)) (at + 1 + 8) ≡ fetchOf s at
-  unfolding fetchOf opcodeOf
-  fetch-push e = rw e
-
-  pub fetch-bnz : getD s at 0 ≡ 9 → fetchField (signedAt 2 s (at + 1)) (at + 1 + 2) ≡ fetchOf s at
-  unfolding fetchOf opcodeOf
-  fetch-bnz e = rw e
-
-  pub fetch-unknown : Known.Nothing ≡ knownOpcode (opcodeOf (getD s at 0)) (pos 0) → Unknown ≡ fetchOf s at
+  pub fetch-unknown : shapeOf (opcodeOf (getD s at 0)) ≡ Shape.Unknown → Unknown ≡ fetchOf s at
   unfolding fetchOf
   fetch-unknown e = unknown (opcodeOf (getD s at 0)) e
     where
-      unknown : (x : Option Opcode) → Known.Nothing ≡ knownOpcode x (pos 0) → Unknown ≡ fetchOpcode x s (at + 1)
+      unknown : (x : Option Opcode) → shapeOf x ≡ Shape.Unknown → Unknown ≡ fetchOpcode x s (at + 1)
       unknown none e = refl
       unknown (some o) e = absurd (let z : _≡_ {A = ℕ} 0 1 = cc in omega arith)
 
-  pub fetch-plain : (c : Command) → at < length s → (getD s at 0 ≡ 5 → ⊥) → (getD s at 0 ≡ 9 → ⊥)
-      → Known.Is c ≡ knownOpcode (opcodeOf (getD s at 0)) (pos 0)
-      → Is (pos 0) (at + 1) ≡ fetchOf s at
-  unfolding fetchOf
-  fetch-plain c h f g e = plain (opcodeOf (getD s at 0)) refl e
-    where
-      plain : (x : Option Opcode) → opcodeOf (getD s at 0) ≡ x → Known.Is c ≡ knownOpcode x (pos 0) → Is (pos 0) (at + 1) ≡ fetchOpcode x s (at + 1)
-      plain none d e = absurd (let z : _≡_ {A = ℕ} 0 1 = cc in omega arith)
-      plain (some o) d e =
-          let k = codeOf-opcodeOf (getD s at 0) o d in
-          rw (width-none o (λ p. f (sym k ∙ p)) (λ p. g (sym k ∙ p)), signedAt-empty s (at + 1) (omega arith), add-zero (at + 1))
+  module _ (w n : ℕ) (has : Bool) (e : shapeOf (opcodeOf (getD s at 0)) ≡ Shape.Of w n has) where
+    -- the opcode, whose operand has so many bytes
+    abbrev Shaped : Type 0
+    Shaped = (o : Opcode) × (opcodeOf (getD s at 0) ≡ some o) × (operandWidth o ≡ w)
+
+    shaped : Shaped
+    shaped = of (opcodeOf (getD s at 0)) refl e
+      where
+        of : (x : Option Opcode) → opcodeOf (getD s at 0) ≡ x → shapeOf x ≡ Shape.Of w n has → Shaped
+        of none d e = absurd (let z : _≡_ {A = ℕ} 0 1 = cc in omega arith)
+        of (some o) d e = (o, d, cc)
+
+    -- a field of so many bytes
+    pub fetch-field : (k : ℕ) → w ≡ k → fetchField (signedAt k s (at + 1)) (at + 1 + k) ≡ fetchOf s at
+    unfolding fetchOf
+    fetch-field k d = rw (shaped .1, shaped .2, d)
+
+    pub fetch-plain : at < length s → (w ≡ 8 → ⊥) → (w ≡ 2 → ⊥) → Is (pos 0) (at + 1) ≡ fetchOf s at
+    unfolding fetchOf
+    fetch-plain h f g =
+        let d = shaped .2 in
+        let k = width-none (shaped .0) (λ k. f (sym d ∙ k)) (λ k. g (sym d ∙ k)) in
+        rw (shaped .1, k, signedAt-empty s (at + 1) (omega arith), add-zero (at + 1))

@@ -1,177 +1,167 @@
--- Loading a program command by command: what is left to write, laid from the next word on, gives the whole program's space.
+-- Writing a program command by command: what is left to write, laid from the next word on, gives the whole space. And what is written of an
+-- accepted program that fits is the program.
 -- Assumes nothing.
-use mathlib.Core.Path.{_≡_, refl, sym, ap, ap₂, subst, _∙_}
+use mathlib.Core.Path.{_≡_, refl, sym, ap, _∙_}
 use mathlib.Core.List.{List, [], _∷_}
 use Prim.Native.Nat.{ℕ, zero, suc, _+_, _-_, _*_, _/_, _<_, _≤_}
-use native.Mathlib.Nat.{zero-add}
 use native.Mathlib.Numerals.{add-one, add-two}
 use native.Mathlib.Omega.{arith}
 use lib.IntN.{ℤ, pos}
 use lib.ListN.{length, drop, getD, set, length-set, drop-of-length-le}
-use borrow.Author.Tests.{le-leb, lt-leb}
 use Rattle.word.specs.Lay.{laid, laidAt}
 use Rattle.word.proofs.Lay.{laidAt-nil, laidAt-zero, laidAt-cons}
 use Rattle.program.specs.declared.Command.{Command}
 use Rattle.program.specs.declared.Refusal.{Refusal}
-use Rattle.program.specs.declared.Checked.the-variants as Checked
 use Rattle.program.specs.declared.Fetched.the-variants.{Is, Unknown, Cut}
-use Rattle.program.specs.Command.{Opcode, codeOf, opcode, operand, command}
-use Rattle.program.specs.Decode.{Decoded, refused, accepted, refusal, prepend, decodeFrom, decode, commandLimit, checkAnswer}
+use Rattle.program.specs.Command.{opcodeOf}
+use Rattle.program.specs.Decode.{First, unknown, cut, whole, firstOpcode, Decoded, refused, accepted, refusal, prepend, decodeFirst, decodeFrom, decode, commandLimit}
 use Rattle.program.specs.Fetch.{fetchOf}
-use Rattle.program.specs.Space.{programWords, loadAnswer, loadSpace, Fits}
+use Rattle.program.specs.Space.{programWords, takeFirst, readable, writeSpace}
 use Rattle.program.proofs.Codes.{opcode-command}
-use Rattle.program.proofs.Fetching.{Next, Fetches, fetches}
-use Rattle.program.proofs.Checking.{remaining, remaining-end, remaining-limit}
+use Rattle.program.proofs.Fetching.{Next, fetched-next, readable-unknown, readable-cut, readable-next}
 
-never : {A : Type 0} (d : Decoded) {r : _} {cs : List Command} → d ≡ refused r → d ≡ accepted cs → A
-never d e f = absurd (let z : _≡_ {A = ℕ} 0 1 = cc in omega arith)
+-- ════════════════════════════════════════════════════════════════════════════════════════════
+-- Command by command
+-- ════════════════════════════════════════════════════════════════════════════════════════════
 
--- the space `space`, into which the commands before `at` are written, i words of it
-pub record Loading (s : List ℕ) (old space : List ℤ) (at i : ℕ) : Type 0 where
-  pub count : ℕ
-  pub commands : List Command
-  pub few : count ≤ commandLimit
-  pub left : remaining s at count ≡ accepted commands
-  pub room : i + 2 * length commands ≤ length space
+-- the space `space`, into which the commands before `at` are written, i words of it; so many more have room
+pub record Writing (s : List ℕ) (old space : List ℤ) (at i : ℕ) : Type 0 where
+  pub room : ℕ
+  pub fits : i + 2 * room ≤ length space
+  pub full : length space < i + 2 * room + 2
   pub same : length space ≡ length old
-  pub words : laidAt i (programWords commands) space ≡ loadSpace (decode s) old
+  pub words : laidAt i (programWords (readable room (drop at s))) space ≡ writeSpace s old
 
-pub loading-start : (s : List ℕ) (old : List ℤ) → Fits (decode s) old → Loading s old old 0 0
-unfolding decode
-loading-start s old f = start (decode s) refl f
-  where
-    start : (d : Decoded) → decode s ≡ d → Fits d old → Loading s old old 0 0
-    start (refused r) e f = absurd f
-    start (accepted cs) e f =
-        record {
-          count = 0;
-          commands = cs;
-          few = omega arith;
-          left = e;
-          room = omega arith;
-          same = refl;
-          words = laidAt-zero (programWords cs) old ∙ sym (ap (λ d. loadSpace d old) e ∙ rw (le-leb (2 * length cs) (length old) f));
-        }
+pub writing-start : (s : List ℕ) (old : List ℤ) → Writing s old old 0 0
+unfolding writeSpace
+writing-start s old =
+    record {
+      room = length old / 2;
+      fits = omega arith;
+      full = omega arith;
+      same = refl;
+      words = laidAt-zero (programWords (readable (length old / 2) s)) old;
+    }
 
-prepend-accepted : (c : Command) (d : Decoded) (cs : List Command) → prepend c d ≡ accepted cs → (rest : List Command) × (d ≡ accepted rest) × (cs ≡ c ∷ rest)
-prepend-accepted c (refused r) cs e = never (refused r) refl e
-prepend-accepted c (accepted rest) cs e = (rest, refl, cc)
+readable-nil : (n : ℕ) → readable n [] ≡ []
+unfolding readable
+readable-nil zero = refl
+readable-nil (suc n) = refl
 
-module _ (s : List ℕ) (old space : List ℤ) (at i : ℕ) (l : Loading s old space at i) where
-  pub loading-end : length s ≤ at → space ≡ loadSpace (decode s) old
+readable-zero : (s : List ℕ) → readable 0 s ≡ []
+unfolding readable
+readable-zero s = refl
+
+module _ (s : List ℕ) (old space : List ℤ) (at i : ℕ) (w : Writing s old space at i) where
+  -- nothing more is written
+  nothing : readable (w .room) (drop at s) ≡ [] → space ≡ writeSpace s old
   unfolding programWords
-  loading-end h =
-      let e = sym (l .left) ∙ ap (decodeFrom (commandLimit - l .count) at) (drop-of-length-le s h) ∙ remaining-end (commandLimit - l .count) at in
-      let n : l .commands ≡ [] = cc in
-      sym (laidAt-nil i space) ∙ ap (λ cs. laidAt i (programWords cs) space) (sym n) ∙ l .words
+  nothing e = sym (laidAt-nil i space) ∙ ap (λ cs. laidAt i (programWords cs) space) (sym e) ∙ w .words
 
-  module _ (h : at < length s) where
-    -- a command is left, so the limit is not reached
-    more : l .count < commandLimit
-    more = go (commandLimit - l .count) refl
-      where
-        go : (n : ℕ) → commandLimit - l .count ≡ n → l .count < commandLimit
-        go zero e = never (remaining s at (l .count)) (ap (λ n. decodeFrom n at (drop at s)) e ∙ remaining-limit s at h) (l .left)
-        go (suc n) e = omega arith
+  pub writing-end : length s ≤ at → space ≡ writeSpace s old
+  writing-end h = nothing (ap (readable (w .room)) (drop-of-length-le s h) ∙ readable-nil (w .room))
 
+  pub writing-full : length space - i < 2 → space ≡ writeSpace s old
+  writing-full h =
+      let f = w .fits in
+      let e : w .room ≡ 0 = omega arith in
+      nothing (ap (λ n. readable n (drop at s)) e ∙ readable-zero (drop at s))
+
+  module _ (h : at < length s) (free : 2 ≤ length space - i) where
     left : ℕ
-    left = commandLimit - (l .count + 1)
+    left = w .room - 1
 
-    left-accepted : decodeFrom (suc left) at (drop at s) ≡ accepted (l .commands)
+    left-suc : w .room ≡ suc left
     unfolding left
-    left-accepted =
-        let k = more in
-        let e : suc (commandLimit - (l .count + 1)) ≡ commandLimit - l .count = omega arith in
-        ap (λ n. decodeFrom n at (drop at s)) e ∙ l .left
+    left-suc = let f = w .full in omega arith
 
-    pub loading-known : fetchOf s at ≡ Unknown → ⊥
-    loading-known e = never (decodeFrom (suc left) at (drop at s)) (subst (Fetches left s at) e (fetches left s at h)) left-accepted
+    pub writing-unknown : fetchOf s at ≡ Unknown → space ≡ writeSpace s old
+    writing-unknown e = nothing (ap (λ n. readable n (drop at s)) left-suc ∙ readable-unknown s at h left e)
 
-    pub loading-whole : fetchOf s at ≡ Cut → ⊥
-    loading-whole e = never (decodeFrom (suc left) at (drop at s)) (subst (Fetches left s at) e (fetches left s at h)) left-accepted
+    pub writing-cut : fetchOf s at ≡ Cut → space ≡ writeSpace s old
+    writing-cut e = nothing (ap (λ n. readable n (drop at s)) left-suc ∙ readable-cut s at h left e)
 
     module _ (z : ℤ) (next : ℕ) (e : fetchOf s at ≡ Is z next) where
-      now : Next left s at z next
-      now = subst (Fetches left s at) e (fetches left s at h)
+      now : Next s at z next
+      now = fetched-next s at h z next e
 
-      rest : (rest : List Command) × (decodeFrom left next (drop next s) ≡ accepted rest) × (l .commands ≡ command (now .opcode) z ∷ rest)
-      rest = prepend-accepted (command (now .opcode) z) (decodeFrom left next (drop next s)) (l .commands) (sym (now .decoded) ∙ left-accepted)
-
-      pub loading-forward : at < next
-      loading-forward = now .forward
-
-      pub loading-within : next ≤ length s
-      loading-within = now .within
-
-      -- two words more fit
-      pub loading-room : i + 2 ≤ length space
-      loading-room = let r = l .room in let k = ap length (rest .2) in omega arith
+      pub writing-forward : (at < next) × (next ≤ length s)
+      writing-forward = (now .forward, now .within)
 
       -- the two words of the command
       abbrev after : List ℤ
       after = set (set space i (pos (getD s at 0))) (i + 1) z
 
-      words-next : laidAt i (programWords (l .commands)) space ≡ laidAt (i + 2) (programWords (rest .0)) after
+      abbrev rest : List Command
+      rest = readable left (drop next s)
+
+      words-next : laidAt i (programWords (readable (w .room) (drop at s))) space ≡ laidAt (i + 2) (programWords rest) after
       unfolding programWords
       words-next =
-          ap (λ cs. laidAt i (programWords cs) space) (rest .2)
+          ap (λ cs. laidAt i (programWords cs) space) (ap (λ n. readable n (drop at s)) left-suc ∙ readable-next s at h left now)
           ∙ rw (
             opcode-command (now .opcode) z,
             now .operand-is,
             now .code,
-            laidAt-cons i (pos (getD s at 0)) (z ∷ programWords (rest .0)) space (let r = loading-room in omega arith),
-            laidAt-cons (suc i) z (programWords (rest .0)) (set space i (pos (getD s at 0))) (let r = loading-room in let k = length-set space i (pos (getD s at 0)) in omega arith),
+            laidAt-cons i (pos (getD s at 0)) (z ∷ programWords rest) space (omega arith),
+            laidAt-cons (suc i) z (programWords rest) (set space i (pos (getD s at 0))) (let k = length-set space i (pos (getD s at 0)) in omega arith),
             add-one i,
             add-two i,
           )
 
-      pub loading-next : Loading s old after next (i + 2)
-      unfolding left
-      loading-next =
+      pub writing-next : Writing s old after next (i + 2)
+      writing-next =
           record {
-            count = l .count + 1;
-            commands = rest .0;
-            few = let k = more in omega arith;
-            left = rest .1;
-            room = let r = l .room in let k = ap length (rest .2) in simp length-set (omega arith);
-            same = simp length-set (l .same);
-            words = sym words-next ∙ l .words;
+            room = left;
+            fits = let f = w .fits in let k = left-suc in simp length-set (omega arith);
+            full = let f = w .full in let k = left-suc in simp length-set (omega arith);
+            same = simp length-set (w .same);
+            words = sym words-next ∙ w .words;
           }
 
 -- ════════════════════════════════════════════════════════════════════════════════════════════
--- The answer, from the check's
+-- An accepted program
 -- ════════════════════════════════════════════════════════════════════════════════════════════
 
-module _ (d : Decoded) (old : List ℤ) where
-  -- the check refuses
-  pub load-refused : (r : Refusal) → Checked.Refused r ≡ checkAnswer d → (Checked.Refused r ≡ loadAnswer d old) × (old ≡ loadSpace d old)
-  load-refused r e = refuses d e
-    where
-      refuses : (d : Decoded) → Checked.Refused r ≡ checkAnswer d → (Checked.Refused r ≡ loadAnswer d old) × (old ≡ loadSpace d old)
-      refuses (refused q) e = (e, refl)
-      refuses (accepted cs) e = absurd (let z : _≡_ {A = ℕ} 0 1 = cc in omega arith)
+never : {A : Type 0} (d : Decoded) {r : Refusal} {cs : List Command} → d ≡ refused r → d ≡ accepted cs → A
+never d e f = absurd (let z : _≡_ {A = ℕ} 0 1 = cc in omega arith)
 
-  module _ (n : ℕ) (e : Checked.Accepted n ≡ checkAnswer d) where
-    accepts : (cs : List Command) × (d ≡ accepted cs) × (n ≡ length cs)
-    accepts = go d e
-      where
-        go : (x : Decoded) → Checked.Accepted n ≡ checkAnswer x → (cs : List Command) × (x ≡ accepted cs) × (n ≡ length cs)
-        go (refused q) e = absurd (let z : _≡_ {A = ℕ} 0 1 = cc in omega arith)
-        go (accepted cs) e = (cs, refl, cc)
+prepend-accepted : (c : Command) (d : Decoded) (cs : List Command) → prepend c d ≡ accepted cs
+    → (rest : List Command) × (d ≡ accepted rest) × (cs ≡ c ∷ rest)
+prepend-accepted c (refused r) cs e = never (refused r) refl e
+prepend-accepted c (accepted rest) cs e = (rest, refl, cc)
 
-    -- it accepts, and the space is long enough
-    pub load-fits : n ≤ length old / 2 → Fits d old
-    load-fits h = rw (accepts .1) (let k = accepts .2 in omega arith)
+module _ (at : ℕ) (rest : ℕ → Decoded) (cs : List Command) where
+  first-some : (x : First) → decodeFirst x at rest ≡ accepted cs → 1 ≤ length cs
+  first-some unknown e = never (refused (refusal 2 at)) refl e
+  first-some cut e = never (refused (refusal 3 at)) refl e
+  first-some (whole c w) e = let k = ap length (prepend-accepted c (rest w) cs e .2) in omega arith
 
-    pub load-accepted : n ≤ length old / 2 → Checked.Accepted n ≡ loadAnswer d old
-    load-accepted h =
-        let k = accepts .2 in
-        let f : 2 * length (accepts .0) ≤ length old = omega arith in
-        rw (accepts .1, le-leb (2 * length (accepts .0)) (length old) f) (ap Checked.Accepted k)
+  first-readable : (x : First) (n : ℕ) (more : ℕ → List Command)
+      → ((w : ℕ) (ds : List Command) → rest w ≡ accepted ds → length ds ≤ n → more w ≡ ds)
+      → decodeFirst x at rest ≡ accepted cs → length cs ≤ suc n → takeFirst x more ≡ cs
+  first-readable unknown n more f e h = never (refused (refusal 2 at)) refl e
+  first-readable cut n more f e h = never (refused (refusal 3 at)) refl e
+  first-readable (whole c w) n more f e h =
+      let (ds, d, k) = prepend-accepted c (rest w) cs e in
+      let l = ap length k in
+      ap (λ l. c ∷ l) (f w ds d (omega arith)) ∙ sym k
 
-    -- it accepts, and the space is too short
-    pub load-short : length old / 2 < n → (Checked.Refused (refusal 8 1) ≡ loadAnswer d old) × (old ≡ loadSpace d old)
-    load-short h =
-        let k = accepts .2 in
-        let f : length old < 2 * length (accepts .0) = omega arith in
-        rw (accepts .1, lt-leb (2 * length (accepts .0)) (length old) f) (refl, refl)
+-- with room for its commands, all of them are read
+readable-accepted : (left at : ℕ) (s : List ℕ) (cs : List Command) (n : ℕ) → decodeFrom left at s ≡ accepted cs → length cs ≤ n
+    → readable n s ≡ cs
+unfolding decodeFrom readable
+readable-accepted zero at [] cs n e h = let k : [] ≡ cs = cc in readable-nil n ∙ k
+readable-accepted zero at (b ∷ s) cs n e h = never (refused (refusal 1 at)) refl e
+readable-accepted (suc left) at [] cs n e h = let k : [] ≡ cs = cc in readable-nil n ∙ k
+readable-accepted (suc left) at (b ∷ s) cs zero e h =
+    absurd (omega (arith, first-some at (λ w. decodeFrom left (at + suc w) (drop w s)) cs (firstOpcode (opcodeOf b) s) e))
+readable-accepted (suc left) at (b ∷ s) cs (suc n) e h =
+    first-readable at (λ w. decodeFrom left (at + suc w) (drop w s)) cs (firstOpcode (opcodeOf b) s) n (λ w. readable n (drop w s))
+    (λ w ds d l. readable-accepted left (at + suc w) (drop w s) ds n d l) e h
+
+-- of an accepted program whose words fit, what is written is the program
+pub written-accepted : (s : List ℕ) (cs : List Command) (old : List ℤ) → decode s ≡ accepted cs → 2 * length cs ≤ length old
+    → writeSpace s old ≡ laid (programWords cs) old
+unfolding decode writeSpace
+written-accepted s cs old e h = ap (λ l. laid (programWords l) old) (readable-accepted commandLimit 0 s cs (length old / 2) e (omega arith))

@@ -24,14 +24,24 @@ abbrev pub prepend : Command → Decoded → Decoded
 prepend c (refused r) = refused r
 prepend c (accepted cs) = accepted (c ∷ cs)
 
--- the operand, then the rest of the program
-abbrev pub decodeOperand : Opcode → ℕ → Field → (ℕ → Decoded) → Decoded
-decodeOperand o at Cut rest = refused (refusal 3 at)
-decodeOperand o at (Number z) rest = prepend (command o z) (rest (operandWidth o))
+-- what a code begins with the bytes after it: an unknown command, one whose operand is cut, or a command and its operand's bytes
+pub data First : Type 0 where
+  unknown cut : First
+  whole : Command → ℕ → First
 
-abbrev pub decodeOpcode : Option Opcode → ℕ → List ℕ → (ℕ → Decoded) → Decoded
-decodeOpcode none at bytes rest = refused (refusal 2 at)
-decodeOpcode (some o) at bytes rest = decodeOperand o at (signedAt (operandWidth o) bytes 0) rest
+abbrev pub firstOperand : Opcode → Field → First
+firstOperand o Cut = cut
+firstOperand o (Number z) = whole (command o z) (operandWidth o)
+
+abbrev pub firstOpcode : Option Opcode → List ℕ → First
+firstOpcode none bytes = unknown
+firstOpcode (some o) bytes = firstOperand o (signedAt (operandWidth o) bytes 0)
+
+-- the command at an offset, then the rest of the program
+abbrev pub decodeFirst : First → ℕ → (ℕ → Decoded) → Decoded
+decodeFirst unknown at rest = refused (refusal 2 at)
+decodeFirst cut at rest = refused (refusal 3 at)
+decodeFirst (whole c width) at rest = prepend c (rest width)
 
 -- the commands from the offset `at` on, of which `left` may follow
 unfoldable pub decodeFrom : ℕ → ℕ → List ℕ → Decoded
@@ -39,7 +49,7 @@ decodeFrom zero at [] = accepted []
 decodeFrom zero at (b ∷ bytes) = refused (refusal 1 at)
 decodeFrom (suc left) at [] = accepted []
 decodeFrom (suc left) at (b ∷ bytes) =
-    decodeOpcode (opcodeOf b) at bytes (λ width. decodeFrom left (at + suc width) (drop width bytes))
+    decodeFirst (firstOpcode (opcodeOf b) bytes) at (λ width. decodeFrom left (at + suc width) (drop width bytes))
 
 -- the largest number of commands
 abbrev pub commandLimit : ℕ

@@ -1,25 +1,21 @@
 -- Writing a program as bytes.
-use Prim.Native.Nat.{ℕ}
+use Prim.Native.Nat.{ℕ, zero, suc, _*_}
+use mathlib.Core.Path.{_≡_}
 use mathlib.Core.List.{List, [], _∷_, _++_}
+use lib.IntN.{ℤ, pos}
 use Rattle.word.specs.Field.{bytesOf}
 use Rattle.word.specs.Wrap.{Signed}
 use Rattle.program.specs.declared.Command.{Command}
-use Rattle.program.specs.declared.Command.the-variants.{Add, Sub, Pop, Output, Push, Load, Store, Jump, Bnz, Call, Ret}
 use Rattle.program.specs.Command.{opcode, operand, codeOf, operandWidth}
+
+-- a number that so many bytes hold; no bytes hold 0 only
+abbrev pub FitsBytes : ℕ → ℤ → Type 0
+FitsBytes zero z = z ≡ pos 0
+FitsBytes (suc k) z = Signed (8 * suc k) z
 
 -- a command's operand fits its width
 abbrev pub Writable : Command → Type 0
-Writable Add = Unit {0}
-Writable Sub = Unit {0}
-Writable Pop = Unit {0}
-Writable Output = Unit {0}
-Writable (Push z) = Signed 64 z
-Writable Load = Unit {0}
-Writable Store = Unit {0}
-Writable Jump = Unit {0}
-Writable (Bnz z) = Signed 16 z
-Writable Call = Unit {0}
-Writable Ret = Unit {0}
+Writable c = FitsBytes (operandWidth (opcode c)) (operand c)
 
 abbrev pub AllWritable : List Command → Type 0
 AllWritable [] = Unit {0}

@@ -1,4 +1,4 @@
--- One command at a position, as the code of this crate reads it.
+-- What the code reads of the table of commands, and of one command at a position.
 use Prim.Native.Nat.{ℕ, _+_}
 use mathlib.Core.List.{List}
 use mathlib.Core.Option.{Option, none, some}
@@ -6,9 +6,16 @@ use lib.ListN.{getD}
 use Rattle.word.specs.declared.field.Field.{Field}
 use Rattle.word.specs.declared.field.Field.the-variants as Field
 use Rattle.word.specs.Field.{signedAt}
+use Rattle.program.specs.declared.Shape.{Shape}
+use Rattle.program.specs.declared.Shape.the-variants as Shape
 use Rattle.program.specs.declared.Fetched.{Fetched}
 use Rattle.program.specs.declared.Fetched.the-variants.{Is, Unknown, Cut}
-use Rattle.program.specs.Command.{Opcode, opcodeOf, operandWidth}
+use Rattle.program.specs.Command.{Opcode, opcodeOf, operandWidth, supplies, hasResult}
+
+-- what the table says of an opcode: the operand's bytes, the inputs, whether there is a result
+abbrev pub shapeOf : Option Opcode → Shape
+shapeOf none = Shape.Unknown
+shapeOf (some o) = Shape.Of (operandWidth o) (supplies o) (hasResult o)
 
 abbrev pub fetchField : Field → ℕ → Fetched
 fetchField Field.Cut next = Cut

@@ -1,15 +1,16 @@
 // Programs (document 01: sheets). Read in specs/: Command, Decode, Space; Encode for the way back.
+pub mod code;
+
 ghost use mathlib.Core.Path.{_≡_};
 ghost use Prim.Native.Nat.{_<_};
 ghost use lib.ListN.{length};
 ghost use Rattle.program.specs.Decode.{decode, checkAnswer};
 ghost use Rattle.program.specs.Command.{opcodeOf};
-ghost use Rattle.program.specs.Fetch.{fetchField, fetchOf};
-ghost use Rattle.program.specs.Space.{known, knownOpcode, loadAnswer, loadSpace, Fits};
+ghost use Rattle.program.specs.Fetch.{shapeOf, fetchField, fetchOf};
+ghost use Rattle.program.specs.Space.{writeSpace};
 use word::field::Field;
-use word::number::Natural;
 
-// A command of document 01, with its operand where it has one.
+// A command of document 01, with its operand where it has one: what the definitions speak of.
 pub enum Command {
     Add,
     Sub,
@@ -36,10 +37,10 @@ pub enum Checked {
     Refused(Refusal),
 }
 
-// The command that two words of the program space stand for.
-pub enum Known {
-    Is(Command),
-    Nothing,
+// What the table of commands says of a code: how many bytes the operand has, how many inputs are supplied, whether there is a result.
+pub enum Shape {
+    Of(usize, usize, bool),
+    Unknown,
 }
 
 // The command at a position: its operand and the position after it.
@@ -49,33 +50,23 @@ enum Fetched {
     Cut,
 }
 
-// The command with a code and an operand.
-fn by_code(code: u64, operand: i64) -> Known
-    ensures { λ r. ⌜ r ≡ knownOpcode (opcodeOf code) operand ⌝ }
+// The table of commands.
+pub fn shape_of(code: u64) -> Shape
+    ensures { λ r. ⌜ r ≡ shapeOf (opcodeOf code) ⌝ }
 {
     match code {
-        1 => Known::Is(Command::Add),
-        2 => Known::Is(Command::Sub),
-        3 => Known::Is(Command::Pop),
-        4 => Known::Is(Command::Output),
-        5 => Known::Is(Command::Push(operand)),
-        6 => Known::Is(Command::Load),
-        7 => Known::Is(Command::Store),
-        8 => Known::Is(Command::Jump),
-        9 => Known::Is(Command::Bnz(operand)),
-        10 => Known::Is(Command::Call),
-        11 => Known::Is(Command::Ret),
-        _ => Known::Nothing,
-    }
-}
-
-pub fn command_of(code: i64, operand: i64) -> Known
-    ensures { λ r. ⌜ r ≡ known code operand ⌝ }
-{
-    let number = word::number::unsigned(code);
-    match number {
-        Natural::Negative => Known::Nothing,
-        Natural::Of(n) => by_code(n, operand),
+        code::ADD => Shape::Of(0, 2, true),
+        code::SUB => Shape::Of(0, 2, true),
+        code::POP => Shape::Of(0, 1, false),
+        code::OUTPUT => Shape::Of(0, 1, true),
+        code::PUSH => Shape::Of(8, 0, true),
+        code::LOAD => Shape::Of(0, 2, true),
+        code::STORE => Shape::Of(0, 3, true),
+        code::JUMP => Shape::Of(0, 1, false),
+        code::BNZ => Shape::Of(2, 1, false),
+        code::CALL => Shape::Of(0, 1, true),
+        code::RET => Shape::Of(0, 1, false),
+        _ => Shape::Unknown,
     }
 }
 
@@ -94,18 +85,19 @@ fn fetch(bytes: &[u8], at: usize) -> Fetched
     requires { ⌜ at < length (now bytes) ⌝ }
     ensures { λ r. ⌜ r ≡ fetchOf (now (bytes .entry)) at ⌝ }
 {
-    let code = wide(bytes[at]);
     let next = at + 1;
-    if code == 5 {
-        return with_field(word::field::i64_at(bytes, next), next + 8);
-    }
-    if code == 9 {
-        return with_field(word::field::i16_at(bytes, next), next + 2);
-    }
-    let plain = by_code(code, 0);
-    match plain {
-        Known::Is(_) => Fetched::Is(0, next),
-        Known::Nothing => Fetched::Unknown,
+    let shape = shape_of(wide(bytes[at]));
+    match shape {
+        Shape::Unknown => Fetched::Unknown,
+        Shape::Of(width, _, _) => {
+            if width == 8 {
+                return with_field(word::field::i64_at(bytes, next), next + 8);
+            }
+            if width == 2 {
+                return with_field(word::field::i16_at(bytes, next), next + 2);
+            }
+            Fetched::Is(0, next)
+        }
     }
 }
 
@@ -151,14 +143,16 @@ pub fn check(bytes: &[u8]) -> Checked
     Checked::Accepted(count)
 }
 
-// Writes the words of an accepted program into a space that is long enough.
-fn write(bytes: &[u8], space: &mut [i64])
-    requires { ⌜ Fits (decode (now bytes)) (now space) ⌝ }
-    ensures { λ _. ⌜ now (space .exit) ≡ loadSpace (decode (now (bytes .entry))) (now (space .entry)) ⌝ }
+// Writes a program into a space without a check: its commands from the left, as far as they can be read and as there is room.
+pub fn write(bytes: &[u8], space: &mut [i64])
+    ensures { λ _. ⌜ now (space .exit) ≡ writeSpace (now (bytes .entry)) (now (space .entry)) ⌝ }
 {
     let mut at: usize = 0;
     let mut i: usize = 0;
     while at < bytes.len() {
+        if space.len() - i < 2 {
+            return;
+        }
         let code = wide(bytes[at]);
         let fetched = fetch(bytes, at);
         match fetched {
@@ -170,28 +164,6 @@ fn write(bytes: &[u8], space: &mut [i64])
             }
             Fetched::Unknown => return,
             Fetched::Cut => return,
-        }
-    }
-}
-
-// Loads a program into the space lent for it. A refusal leaves the space as it came: number 8 at place 1 where it is too short.
-pub fn load(bytes: &[u8], space: &mut [i64]) -> Checked
-    ensures answer { λ r. ⌜ r ≡ loadAnswer (decode (now (bytes .entry))) (now (space .entry)) ⌝ }
-    ensures space { λ _. ⌜ now (space .exit) ≡ loadSpace (decode (now (bytes .entry))) (now (space .entry)) ⌝ }
-{
-    let checked = check(bytes);
-    match checked {
-        Checked::Refused(r) => Checked::Refused(r),
-        Checked::Accepted(count) => {
-            if count <= space.len() / 2 {
-                write(bytes, space);
-                Checked::Accepted(count)
-            } else {
-                Checked::Refused(Refusal {
-                    code: 8,
-                    position: 1,
-                })
-            }
         }
     }
 }

@@ -1,48 +1,50 @@
 // What the program writes: text, numbers and labels on standard output.
 use label::Label;
-use word::text::Put;
+use program::Refusal;
 
 pub(crate) fn text(bytes: &[u8]) {
     io::write_all(1, bytes);
 }
 
-// The first bytes of a buffer.
-fn first(buffer: &[u8], count: usize) {
-    if count <= buffer.len() {
-        io::write_all(1, &buffer[..count]);
-    }
-}
-
-// How many bytes were put at the start of a buffer.
-fn count(put: Put) -> usize {
-    match put {
-        Put::Next(n) => n,
-        Put::NoRoom => 0,
-    }
+pub(crate) fn count(n: u64) {
+    io::print_decimal(1, n);
 }
 
 pub(crate) fn number(n: i64) {
-    let mut buffer = [0u8; 20];
-    let put = word::text::put_decimal(n, &mut buffer, 0);
-    first(&buffer, count(put));
+    if n < 0 {
+        text(b"-");
+        count(word::wrap::to_bits(word::wrap::sub(0, n)));
+    } else {
+        count(word::wrap::to_bits(n));
+    }
 }
 
-pub(crate) fn label(l: Label) {
-    let mut buffer = [0u8; 8];
-    let put = word::text::put_hex(l.0, &mut buffer, 0);
-    first(&buffer, count(put));
+// A number with a label, as its number.
+pub(crate) fn atom(n: i64, l: Label) {
+    number(n);
+    text(b" label ");
+    count(l.0 as u64);
 }
 
-// The first words of a run, each after a space.
-pub(crate) fn words(name: &[u8], run: &[i64], count: usize) {
-    text(name);
+// Words in brackets.
+pub(crate) fn words(run: &[i64]) {
+    text(b"(");
     let mut i: usize = 0;
-    while i < count {
-        text(b" ");
+    while i < run.len() {
+        if 0 < i {
+            text(b",");
+        }
         number(word::memory::at(run, i));
         i += 1;
     }
-    line();
+    text(b")");
+}
+
+pub(crate) fn refused(r: Refusal) {
+    text(b"refused ");
+    count(r.code);
+    text(b" at ");
+    count(r.position as u64);
 }
 
 pub(crate) fn line() {

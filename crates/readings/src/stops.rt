@@ -1,96 +1,65 @@
-// Every stop from 0 to 8, beside those of the readings.
-use crate::print;
-use crate::trial::on_cells;
-use crate::trial::on_output;
-use crate::trial::on_pairs;
-use crate::trial::on_space;
+// Every stop from 0 to 8.
 use crate::trial::on_two;
 
-// Stops 0, 1, 2 and 5: where the place or an address is.
+// Stops 0 to 2: the allowance and the place.
 pub(crate) fn places() {
-    on_pairs(b"end on the last step ", b"\x05\x01", 5, 1);
-    on_pairs(b"round and round ", b"\x05\0\x08\0", 5, 5);
-    on_pairs(b"Jump 9 ", b"\x05\x09\x08\0", 5, 1000);
-    on_pairs(b"Bnz -5 ", b"\x05\x01\x09\xfb", 5, 1000);
-    on_pairs(b"Load -1 ", b"\x05\xff\x06\0", 5, 1000);
+    on_two(
+        b"stop 0, Push on the last step: ",
+        b"\x05\x01\0\0\0\0\0\0\0",
+        5,
+        1,
+    );
+    on_two(
+        b"stop 1, Push 0 and Jump round and round: ",
+        b"\x05\0\0\0\0\0\0\0\0\x08",
+        5,
+        5,
+    );
+    on_two(
+        b"stop 2, Jump to 9: ",
+        b"\x05\x09\0\0\0\0\0\0\0\x08",
+        5,
+        1000,
+    );
 }
 
-// Stops 3 and 4: what is on the stack. Add does not reach past a frame.
+// Stops 3 to 5: what is on the stack, and the address. Add does not reach past a frame.
 pub(crate) fn entries() {
-    on_pairs(b"Add on nothing ", b"\x01\0", 5, 1000);
-    on_pairs(b"Add on one ", b"\x05\x01\x01\0", 5, 1000);
-    on_pairs(
-        b"Add over a frame ",
-        b"\x05\x01\x05\x03\x0a\0\x01\0",
+    on_two(
+        b"stop 3, Add over a frame: ",
+        b"\x05\x01\0\0\0\0\0\0\0\x05\x03\0\0\0\0\0\0\0\x0a\x01",
         5,
         1000,
     );
-    on_pairs(
-        b"Pop on a frame ",
-        b"\x05\x01\x05\x03\x0a\0\x03\0\x03\0",
+    on_two(
+        b"stop 4, Ret on a value: ",
+        b"\x05\x01\0\0\0\0\0\0\0\x0b",
         5,
         1000,
     );
-    on_pairs(b"Ret on a value ", b"\x05\x01\x0b\0", 5, 1000);
+    on_two(
+        b"stop 5, Load from -1: ",
+        b"\x05\xff\xff\xff\xff\xff\xff\xff\xff\x06",
+        5,
+        1000,
+    );
 }
 
-// Stop 7: a byte 05 repeated is Push after Push.
+// Stops 6 to 8. Cell 1 holds an address 0 with label 1, under which cell 0 is not stored to. A byte 05 repeated is Push after Push. The
+// output space holds two lines.
 pub(crate) fn full() {
-    on_two(b"256 Push ", &[5u8; 2304], 5, 1000);
-    on_two(b"257 Push ", &[5u8; 2313], 5, 1000);
-}
-
-fn output(name: &[u8], numbers: &mut [i64], marks: &mut [i64]) {
-    let sheet = b"\x05\x01\0\0\0\0\0\0\0\x04\x05\x02\0\0\0\0\0\0\0\x04";
-    on_output(name, sheet, numbers, marks);
-    print::words(b"  numbers", numbers, numbers.len());
-    print::words(b"  labels", marks, marks.len());
-}
-
-// Stop 8: Push 1, Output, Push 2, Output. The shorter run counts, and words beyond the lines stay.
-pub(crate) fn lines() {
-    output(b"no line ", &mut [-7i64; 0], &mut [-7i64; 0]);
-    output(b"one line ", &mut [-7i64; 1], &mut [-7i64; 1]);
-    output(b"two numbers, one label ", &mut [-7i64; 2], &mut [-7i64; 1]);
-    output(
-        b"one number, three labels ",
-        &mut [-7i64; 1],
-        &mut [-7i64; 3],
-    );
-    output(b"three lines ", &mut [-7i64; 3], &mut [-7i64; 3]);
-}
-
-fn stack(name: &[u8], sheet: &[u8]) {
-    let mut program = [-7i64; 20];
-    let mut entries = [-7i64; 768];
-    on_space(name, sheet, &mut program, &mut entries, 1000);
-    print::words(b"  stack", &entries, 7);
-}
-
-// Push 9, Push 1, Store: cell 1 takes the number and the new label.
-fn store() {
-    let mut values = [7i64, 5];
-    let mut labels = [0i64, 1];
-    on_cells(
-        b"Store ",
-        b"\x05\x09\0\0\0\0\0\0\0\x05\x01\0\0\0\0\0\0\0\x07",
-        &mut values,
-        &mut labels,
+    on_two(
+        b"stop 6, Store at a labelled address: ",
+        b"\x05\x09\0\0\0\0\0\0\0\x05\x01\0\0\0\0\0\0\0\x06\x07",
+        0,
         1000,
     );
-    print::words(b"  values", &values, 2);
-    print::words(b"  labels", &labels, 2);
-}
-
-// A dropped entry keeps its content: Push 1, Push 2, Add, Pop; then Push 1, Push 3, Call, Pop, where the frame stays.
-pub(crate) fn kept() {
-    stack(
-        b"Add and Pop ",
-        b"\x05\x01\0\0\0\0\0\0\0\x05\x02\0\0\0\0\0\0\0\x01\x03",
+    on_two(b"256 Push: ", &[5u8; 2304], 5, 1000);
+    on_two(b"stop 7, 257 Push: ", &[5u8; 2313], 5, 1000);
+    on_two(
+        b"stop 8, a third line: ",
+        b"\x05\x01\0\0\0\0\0\0\0\x04\x05\x02\0\0\0\0\0\0\0\x04\x05\x03\0\0\0\0\0\0\0\x04",
+        5,
+        1000,
     );
-    stack(
-        b"Call and Pop ",
-        b"\x05\x01\0\0\0\0\0\0\0\x05\x03\0\0\0\0\0\0\0\x0a\x03",
-    );
-    store();
 }

@@ -1,197 +1,151 @@
-// One run of the plain engine, and what there is to say of it.
+// One run of an engine, and what there is to say of it. Each lent word is -7 where nothing else is said.
+use crate::memory::digest;
 use crate::print;
+use engine::Answer;
+use engine::Ran;
 use label::Label;
-use plain::Answer;
+use policy::row::Cache;
 use program::Refusal;
-use step::Machine;
-
-// A number that another word at any position changes.
-fn checksum(run: &[i64]) -> u64 {
-    let mut sum: u64 = 0;
-    let mut all: u64 = 0;
-    let mut i: usize = 0;
-    while i < run.len() {
-        sum = std::num::wrapping_add_u64(sum, word::wrap::to_bits(word::memory::at(run, i)));
-        all = std::num::wrapping_add_u64(all, sum);
-        i += 1;
-    }
-    all
-}
-
-fn pair(a: &[i64], b: &[i64]) -> u64 {
-    std::num::wrapping_add_u64(checksum(a), checksum(b))
-}
-
-fn refused(r: Refusal) {
-    print::text(b"refused ");
-    io::print_decimal(1, r.code);
-    print::text(b" ");
-    io::print_decimal(1, r.position as u64);
-}
-
-fn untouched(same: bool) {
-    if same {
-        print::text(b", all as it came\n");
-    } else {
-        print::text(b", CHANGED\n");
-    }
-}
 
 fn counted(name: &[u8], n: u64) {
     print::text(name);
-    io::print_decimal(1, n);
+    print::count(n);
 }
 
-fn place(m: Machine) {
-    print::text(b" place ");
-    print::number(m.pc.0);
-    print::text(b" ");
-    print::label(m.label);
+fn line(number: i64, label: i64) {
+    print::text(b" (");
+    print::atom(number, Label::low(label));
+    print::text(b")");
 }
 
-fn line(number: i64, mark: i64) {
-    print::text(b"  ");
-    print::number(number);
-    print::text(b" ");
-    print::label(Label::low(mark));
-    print::line();
-}
-
-fn lines(numbers: &[i64], marks: &[i64], count: usize) {
+fn lines(numbers: &[i64], labels: &[i64], count: usize) {
     let mut i: usize = 0;
     while i < count {
-        line(word::memory::at(numbers, i), word::memory::at(marks, i));
+        line(word::memory::at(numbers, i), word::memory::at(labels, i));
         i += 1;
     }
 }
 
-fn stopped(stop: u64, steps: u64, m: Machine) {
-    counted(b"stop ", stop);
-    counted(b" steps ", steps);
-    place(m);
-    counted(b" depth ", m.depth as u64);
-    counted(b" lines ", m.lines as u64);
-    print::line();
+fn stopped(ran: Ran) {
+    let m = ran.machine;
+    counted(b"stop ", ran.stop);
+    counted(b", steps ", ran.steps);
+    print::text(b", place ");
+    print::atom(m.pc.0, m.label);
+    counted(b", depth ", m.depth as u64);
+    counted(b", lines ", m.lines as u64);
 }
 
-// All that the engine is lent.
-pub(crate) fn run(
-    name: &[u8],
-    sheet: &[u8],
-    values: &mut [i64],
-    labels: &mut [i64],
-    program: &mut [i64],
-    stack: &mut [i64],
-    numbers: &mut [i64],
-    marks: &mut [i64],
-    fuel: u64,
-) {
-    print::text(name);
-    let cells = pair(values, labels);
-    let space = pair(program, stack);
-    let output = pair(numbers, marks);
-    let answer = plain::execute(sheet, values, labels, program, stack, numbers, marks, fuel);
+fn refused(r: Refusal, same: bool) {
+    print::refused(r);
+    if same {
+        print::text(b", all as it came");
+    } else {
+        print::text(b", CHANGED");
+    }
+}
+
+fn report(answer: Answer, same: bool, numbers: &[i64], labels: &[i64]) {
     match answer {
-        Answer::Refused(r) => {
-            refused(r);
-            let same = cells == pair(values, labels);
-            let rest = space == pair(program, stack);
-            let last = output == pair(numbers, marks);
-            untouched(same & rest & last);
-        }
+        Answer::Refused(r) => refused(r, same),
         Answer::Stopped(ran) => {
-            let machine = ran.machine;
-            stopped(ran.stop, ran.steps, machine);
-            lines(numbers, marks, machine.lines);
+            stopped(ran);
+            lines(numbers, labels, ran.machine.lines);
         }
     }
 }
 
-// On cells of the caller's, with space for 300 commands and four lines. Each lent word is -7 where nothing else is said.
-pub(crate) fn on_cells(
-    name: &[u8],
-    sheet: &[u8],
-    values: &mut [i64],
-    labels: &mut [i64],
-    fuel: u64,
-) {
-    let mut program = [-7i64; 600];
+// All lent words as one number.
+fn lent(
+    values: &[i64],
+    labels: &[i64],
+    program: &[i64],
+    stack: &[i64],
+    numbers: &[i64],
+    line_labels: &[i64],
+) -> u64 {
+    let cells = digest(digest(0, values), labels);
+    let spaces = digest(digest(cells, program), stack);
+    digest(digest(spaces, numbers), line_labels)
+}
+
+// The tag engine under the standard table, with space for 257 commands, the handler and two lines.
+fn on(sheet: &[u8], values: &mut [i64], labels: &mut [i64], cache: Cache, fuel: u64) {
+    let table = policy::standard_table::bytes();
+    let mut program = [-7i64; 514];
     let mut stack = [-7i64; 768];
-    let mut numbers = [-7i64; 4];
-    let mut marks = [-7i64; 4];
-    run(
-        name,
+    let mut handler = [-7i64; 302];
+    let mut numbers = [-7i64; 2];
+    let mut line_labels = [-7i64; 2];
+    let before = digest(
+        lent(values, labels, &program, &stack, &numbers, &line_labels),
+        &handler,
+    );
+    let r = tagged::execute(
+        sheet,
+        values,
+        labels,
+        &table,
+        cache,
+        &mut program,
+        &mut stack,
+        &mut handler,
+        &mut numbers,
+        &mut line_labels,
+        fuel,
+    );
+    let after = digest(
+        lent(values, labels, &program, &stack, &numbers, &line_labels),
+        &handler,
+    );
+    let answer = r.answer;
+    report(answer, before == after, &numbers, &line_labels);
+    counted(b", faults ", r.faults);
+    counted(b", kernel steps ", r.kernel);
+    print::text(b", rule memory ");
+    print::words(&r.cache.words);
+    print::line();
+}
+
+// The plain engine, so too.
+fn plainly(sheet: &[u8], values: &mut [i64], labels: &mut [i64], fuel: u64) {
+    print::text(b"  plain engine: ");
+    let mut program = [-7i64; 514];
+    let mut stack = [-7i64; 768];
+    let mut numbers = [-7i64; 2];
+    let mut line_labels = [-7i64; 2];
+    let before = lent(values, labels, &program, &stack, &numbers, &line_labels);
+    let answer = plain::execute(
         sheet,
         values,
         labels,
         &mut program,
         &mut stack,
         &mut numbers,
-        &mut marks,
+        &mut line_labels,
         fuel,
     );
+    let after = lent(values, labels, &program, &stack, &numbers, &line_labels);
+    report(answer, before == after, &numbers, &line_labels);
+    print::line();
 }
 
-// Document 01's two cells, the second with another number where wanted.
+// Both on document 01's two cells, the second with another number where wanted.
 pub(crate) fn on_two(name: &[u8], sheet: &[u8], second: i64, fuel: u64) {
-    let mut values = [7i64, second];
-    let mut labels = [0i64, 1];
-    on_cells(name, sheet, &mut values, &mut labels, fuel);
-}
-
-// With working space of the caller's.
-pub(crate) fn on_space(
-    name: &[u8],
-    sheet: &[u8],
-    program: &mut [i64],
-    stack: &mut [i64],
-    fuel: u64,
-) {
-    let mut values = [7i64, 5];
-    let mut labels = [0i64, 1];
-    let mut numbers = [-7i64; 4];
-    let mut marks = [-7i64; 4];
-    run(
-        name,
+    print::text(name);
+    on(
         sheet,
-        &mut values,
-        &mut labels,
-        program,
-        stack,
-        &mut numbers,
-        &mut marks,
+        &mut [7i64, second],
+        &mut [0i64, 1],
+        Cache::empty(),
         fuel,
     );
+    plainly(sheet, &mut [7i64, second], &mut [0i64, 1], fuel);
 }
 
-// With output space of the caller's.
-pub(crate) fn on_output(name: &[u8], sheet: &[u8], numbers: &mut [i64], marks: &mut [i64]) {
-    let mut values = [7i64, 5];
-    let mut labels = [0i64, 1];
-    let mut program = [-7i64; 600];
-    let mut stack = [-7i64; 768];
-    run(
-        name,
-        sheet,
-        &mut values,
-        &mut labels,
-        &mut program,
-        &mut stack,
-        numbers,
-        marks,
-        1000,
-    );
-}
-
-fn on_part(name: &[u8], sheet: &[u8], length: usize, second: i64, fuel: u64) {
-    if length <= sheet.len() {
-        on_two(name, &sheet[..length], second, fuel);
-    }
-}
-
-// A sheet written as pairs, on document 01's two cells.
-pub(crate) fn on_pairs(name: &[u8], pairs: &[u8], second: i64, fuel: u64) {
-    let mut sheet = [0u8; 128];
-    let length = crate::sheet::write(pairs, &mut sheet);
-    on_part(name, &sheet, length, second, fuel);
+// From a rule memory.
+pub(crate) fn on_row(name: &[u8], sheet: &[u8], words: [i64; 7]) {
+    print::text(name);
+    let cache = Cache { words };
+    on(sheet, &mut [7i64, 5], &mut [0i64, 1], cache, 1000);
 }

@@ -1,9 +1,9 @@
 -- One command of a job: its 4-byte fields, and its byte.
 -- Assumes nothing.
-use mathlib.Core.Path.{_≡_, refl, sym, ap, _∙_}
+use mathlib.Core.Path.{_≡_, refl}
 use mathlib.Core.Bool.{Bool, true, false}
 use mathlib.Core.List.{List}
-use Prim.Native.Nat.{ℕ, _+_, _^_, _<_, _≤_}
+use Prim.Native.Nat.{ℕ, _+_, _≤_}
 use native.Mathlib.Omega.{arith}
 use lib.IntN.{ℤ, pos, natAbs}
 use lib.Signed.{nonNeg}
@@ -11,7 +11,7 @@ use lib.ListN.{length, getD}
 use lib.Dec.{T, leb}
 use mir.Syntax.{w32}
 use mir.Val.{Fits}
-use borrow.Author.Tests.{leb-true, eq-eqb, ne-eqb}
+use borrow.Author.Tests.{leb-true, ne-eqb}
 use Rattle.word.specs.Field.{bitsAt, whole, unsignedAt, signedAt}
 use Rattle.word.specs.declared.field.Field.the-variants.{Number}
 use Rattle.word.proofs.Laws.Field.{Bytes, bitsAt-lt}

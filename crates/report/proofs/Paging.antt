@@ -2,7 +2,7 @@
 -- Assumes nothing.
 use mathlib.Core.Path.{_≡_, refl, sym, ap, subst, _∙_}
 use mathlib.Core.Bool.{Bool, true, false}
-use mathlib.Core.List.{List, [], _∷_, _++_}
+use mathlib.Core.List.{List}
 use Prim.Native.Nat.{ℕ, zero, suc, _+_, _<_, _≤_}
 use native.Mathlib.Nat.{zero-add}
 use native.Mathlib.Omega.{arith}
@@ -10,19 +10,12 @@ use lib.IntN.{ℤ, pos}
 use lib.ListN.{length, take, drop, length-append, length-replicate}
 use lib.Dec.{ltb, leb}
 use borrow.Author.Tests.{lt-ltb, le-ltb, ltb-true}
-use Rattle.word.specs.Lay.{laid}
 use Rattle.word.proofs.Lay.{laidAt-zero}
-use Rattle.label.specs.Label.{InRange}
-use Rattle.program.specs.declared.Command.{Command}
-use Rattle.machine.specs.Holds.{Each}
-use Rattle.step.specs.Words.{choose}
-use Rattle.plain.specs.Plain.{Memory, memory}
-use Rattle.policy.specs.Expression.{Table}
-use Rattle.policy.specs.Standard.{standardBytes}
-use Rattle.tagged.specs.declared.Answer.{Answer}
-use Rattle.tagging.specs.Run.{Result}
-use Rattle.tagged.specs.Start.{Started, accepted, startOf}
-use Rattle.tagged.specs.Tagged.{Ended, ended, result, outcomeOf, tagged}
+use Rattle.word.specs.Choose.{choose}
+use Rattle.word.proofs.Bool.{never}
+use Rattle.step.specs.Lent.{Cells, cells}
+use Rattle.engine.specs.declared.Answer.{Answer}
+use Rattle.tagged.specs.Tagged.{Left}
 use Rattle.report.specs.declared.job.Item.{Item}
 use Rattle.report.specs.declared.job.Item.the-variants.{Cell, Allowance, Reader, Sheet, Bad}
 use Rattle.report.specs.declared.job.Job.the-variants as Job
@@ -31,11 +24,10 @@ use Rattle.report.specs.declared.Outcome.{Outcome}
 use Rattle.report.specs.declared.Outcome.the-variants as Outcome
 use Rattle.report.specs.Job.{Heard, silence, withCell, withAllowance, withReader, Ending, bad, sheet, Reading, reading}
 use Rattle.report.specs.Job.{itemAt, follow, readFrom, readJob, answerOf, jobAnswer, fitted}
-use Rattle.report.specs.Lines.{jobText, linesText}
+use Rattle.report.specs.Lines.{jobText}
 use Rattle.report.specs.Written.{Written}
-use Rattle.report.specs.Page.{zeros, answerText, endedText, runText, readingText, pageOf, pageLimit, pageAnswer, pageOut}
+use Rattle.report.specs.Page.{zeros, endFor, answerText, endedText, runText, readingText, pageOf, pageLimit, pageAnswer, pageOut}
 use Rattle.report.proofs.Reading.{fitted-take}
-use Rattle.report.proofs.Printing.{linesOf-written}
 
 -- ════════════════════════════════════════════════════════════════════════════════════════════
 -- At most 1,024 cells, each with a label
@@ -84,30 +76,16 @@ few s =
 -- The run's end
 -- ════════════════════════════════════════════════════════════════════════════════════════════
 
-module _ (values labels : List ℤ) (allowance reader : ℕ) (bytes : List ℕ) (a : Answer) (row : List ℤ) (m : Memory) (handler : List ℤ)
-    (d : ended a row m handler
-    ≡ tagged bytes standardBytes (zeros 7) (memory values labels (zeros 8192) (zeros 768) (zeros 1024) (zeros 1024)) (zeros 302) allowance)
+module _ (c : Cells) (allowance reader : ℕ) (bytes : List ℕ) (l : Left) (d : l ≡ endFor c allowance bytes)
     (old : List ℕ) (n : ℕ) (new : List ℕ) where
-  run-text : answerText reader a m ≡ runText values labels allowance reader bytes
+  run-text : endedText reader (l .ended) ≡ runText c allowance reader bytes
   unfolding runText
-  run-text = ap (endedText reader) d
+  run-text = ap (λ (x : Left). endedText reader (x .ended)) d
 
-  pub run-written : (x : Answer) → a ≡ x → Written (answerText reader x m) old 0 n new
-      → Written (runText values labels allowance reader bytes) old 0 n new
-  run-written x e w = subst (λ (t : List ℕ). Written t old 0 n new) (sym (ap (λ x. answerText reader x m) e) ∙ run-text) w
-
--- of an accepted start, the text is that of the run's lines
-pub text-lines : (values labels : List ℤ) (allowance reader : ℕ) (bytes : List ℕ) (cs : List Command) (t : Table)
-    → startOf bytes standardBytes (zeros 7) (length values) labels (length (zeros 8192)) (length (zeros 768)) (length (zeros 302)) allowance ≡ accepted cs t
-    → (let r : Result = result cs t (zeros 7) (memory values labels (zeros 8192) (zeros 768) (zeros 1024) (zeros 1024)) allowance in
-    Each (λ l. InRange (l .label)) (r .machine .state .lines)
-    → runText values labels allowance reader bytes ≡ linesText reader (r .machine .state .lines))
-unfolding runText tagged
-text-lines values labels allowance reader bytes cs t e h =
-    let m : Memory = memory values labels (zeros 8192) (zeros 768) (zeros 1024) (zeros 1024) in
-    let r : Result = result cs t (zeros 7) m allowance in
-    ap (λ (s : Started). endedText reader (outcomeOf s (zeros 7) m (zeros 302) allowance)) e
-    ∙ ap (linesText reader) (linesOf-written (r .machine .state .lines) (zeros 1024) (zeros 1024) h)
+  pub run-written : (x : Answer) → l .ended .answer ≡ x → Written (answerText reader x (l .ended .memory .output)) old 0 n new
+      → Written (runText c allowance reader bytes) old 0 n new
+  run-written x e w =
+      subst (λ (t : List ℕ). Written t old 0 n new) (sym (ap (λ x. answerText reader x (l .ended .memory .output)) e) ∙ run-text) w
 
 -- ════════════════════════════════════════════════════════════════════════════════════════════
 -- The job's reading
@@ -120,13 +98,13 @@ module _ (job old : List ℕ) (n : ℕ) (new : List ℕ) where
     where
       by : (x : Ending) → Job.Bad offset ≡ answerOf (readJob job .heard) x → Written (readingText job (readJob job .heard) x) old 0 n new
       by (bad k) e = let d : offset ≡ k = cc in subst (λ (k : ℕ). Written (jobText k) old 0 n new) d w
-      by (sheet k) e = absurd (let z : _≡_ {A = ℕ} 0 1 = cc in omega arith)
+      by (sheet k) e = never (cc)
 
   module _ (said : Said) (e : Job.Read said ≡ jobAnswer (readJob job)) where
     -- what was said is what was heard
     heard : (x : Ending) → Job.Read said ≡ answerOf (readJob job .heard) x
         → (said .cells ≡ length (readJob job .heard .values)) × (said .cells ≤ 1024)
-    heard (bad k) e = absurd (let z : _≡_ {A = ℕ} 0 1 = cc in omega arith)
+    heard (bad k) e = never (cc)
     heard (sheet k) e =
         let h = readJob job .heard in
         let same : said ≡ record { cells = length (h .values); allowance = h .allowance; reader = record { 0 = h .reader }; sheet = k } = cc in
@@ -135,7 +113,7 @@ module _ (job old : List ℕ) (n : ℕ) (new : List ℕ) where
 
     -- the text of what was said, on cells
     abbrev saidText : Said → (values labels : List ℤ) → List ℕ
-    saidText x values labels = runText values labels (x .allowance) (x .reader .0) (drop (x .sheet) job)
+    saidText x values labels = runText (cells values labels) (x .allowance) (x .reader .0) (drop (x .sheet) job)
 
     pub cells-few : said .cells ≤ 1024
     cells-few = heard (readJob job .ending) e .1
@@ -162,7 +140,7 @@ module _ (job old : List ℕ) (n : ℕ) (new : List ℕ) where
           by : (x : Ending) → Job.Read said ≡ answerOf (readJob job .heard) x
               → Written (saidText said (readJob job .heard .values) (readJob job .heard .labels)) old 0 n new
               → Written (readingText job (readJob job .heard) x) old 0 n new
-          by (bad k) e w = absurd (let z : _≡_ {A = ℕ} 0 1 = cc in omega arith)
+          by (bad k) e w = never (cc)
           by (sheet k) e w =
               let h = readJob job .heard in
               let same : said ≡ record { cells = length (h .values); allowance = h .allowance; reader = record { 0 = h .reader }; sheet = k } = cc in

@@ -3,23 +3,24 @@
 use mathlib.Core.Path.{_≡_, refl, sym, ap, ap₂, _∙_}
 use mathlib.Core.Bool.{Bool, true, false}
 use mathlib.Core.List.{List, [], _∷_, _++_}
-use Prim.Native.Nat.{ℕ, zero, suc, _+_, _*_, _^_, _<_, _≤_, min}
+use Prim.Native.Nat.{ℕ, _+_, _*_, _^_, _<_, _≤_, min}
 use native.Mathlib.Numerals.{add-one}
 use native.Mathlib.Nat.{zero-add, add-zero}
 use native.Mathlib.Omega.{arith}
 use lib.IntN.{ℤ, pos}
 use lib.Signed.{mag}
-use lib.ListN.{length, take, drop, getD, length-append, length-take, drop-of-length-le}
+use lib.ListN.{length, drop, getD, length-append, length-take, drop-of-length-le}
 use lib.Seq.{drop-cons, getD-take}
-use Rattle.label.specs.Label.{InRange, flows}
-use Rattle.word.specs.Lay.{laid, laidAt}
+use Rattle.label.specs.Label.{flows}
+use Rattle.label.specs.Word.{lowLabel}
+use Rattle.word.specs.Choose.{choose}
+use Rattle.word.specs.Lay.{laidAt}
 use Rattle.word.proofs.Lay.{laidAt-nil, laidAt-append, length-laidAt}
 use Rattle.machine.specs.Atom.{Line}
-use Rattle.machine.specs.Holds.{Each}
-use Rattle.step.specs.Layout.{lineNumbers, lineLabels}
-use Rattle.step.proofs.Link.Stack.{lowLabel-id}
-use Rattle.step.specs.Words.{choose}
-use Rattle.report.specs.Lines.{lineText, shownText, linesText, lineOf, linesOf}
+use Rattle.engine.specs.Memory.{output}
+use Rattle.engine.specs.Layout.{paired, linesOf}
+use Rattle.engine.proofs.Pairs.{paired-length, paired-at}
+use Rattle.report.specs.Lines.{lineText, shownText, linesText}
 use Rattle.report.specs.Written.{Written}
 use Rattle.report.proofs.Texts.{line-short}
 
@@ -27,49 +28,26 @@ use Rattle.report.proofs.Texts.{line-short}
 -- The lines of an output space
 -- ════════════════════════════════════════════════════════════════════════════════════════════
 
-pub linesOf-length : (numbers marks : List ℤ) → length (linesOf numbers marks) ≡ min (length numbers) (length marks)
-unfolding linesOf
-linesOf-length [] marks = omega arith
-linesOf-length (n ∷ numbers) [] = omega arith
-linesOf-length (n ∷ numbers) (m ∷ marks) = omega (arith, linesOf-length numbers marks)
-
-linesOf-at : (numbers marks : List ℤ) (i : ℕ) → i < length (linesOf numbers marks)
-    → getD (linesOf numbers marks) i (lineOf (pos 0) (pos 0)) ≡ lineOf (getD numbers i (pos 0)) (getD marks i (pos 0))
-unfolding linesOf
-linesOf-at [] marks i h = absurd (omega arith)
-linesOf-at (n ∷ numbers) [] i h = absurd (omega arith)
-linesOf-at (n ∷ numbers) (m ∷ marks) zero h = refl
-linesOf-at (n ∷ numbers) (m ∷ marks) (suc i) h = linesOf-at numbers marks i (omega arith)
-
--- lines whose labels are in range, written at the start of the two runs, are read back
-pub linesOf-written : (ls : List Line) (numbers marks : List ℤ) → Each (λ l. InRange (l .label)) ls
-    → take (length ls) (linesOf (laid (lineNumbers ls) numbers) (laid (lineLabels ls) marks)) ≡ ls
-unfolding laid linesOf
-linesOf-written ls numbers marks h = go ls (drop (length (lineNumbers ls)) numbers) (drop (length (lineLabels ls)) marks) h
-  where
-    go : (ls : List Line) (ns ms : List ℤ) → Each (λ l. InRange (l .label)) ls
-        → take (length ls) (linesOf (lineNumbers ls ++ ns) (lineLabels ls ++ ms)) ≡ ls
-    go [] ns ms h = refl
-    go (l ∷ ls) ns ms h =
-        ap₂ (λ (n : ℕ) (xs : List Line). record { number = l .number; label = n } ∷ xs) (lowLabel-id (l .label) (h .0)) (go ls ns ms (h .1))
-
 -- the first of them
-module _ (numbers marks : List ℤ) (written : ℕ) where
+module _ (numbers labels : List ℤ) (written : ℕ) where
   abbrev pub first : List Line
-  first = take written (linesOf numbers marks)
+  first = linesOf written (output numbers labels)
 
-  pub first-length : length first ≡ min written (min (length numbers) (length marks))
-  first-length = length-take written (linesOf numbers marks) ∙ ap (λ n. min written n) (linesOf-length numbers marks)
+  abbrev all : List Line
+  all = paired (λ n l. record { number = n; label = l }) numbers labels
+
+  pub first-length : length first ≡ min written (min (length numbers) (length labels))
+  first-length = length-take written all ∙ ap (λ n. min written n) (paired-length _ numbers labels)
 
   abbrev pub lineAt : ℕ → Line
-  lineAt i = lineOf (getD numbers i (pos 0)) (getD marks i (pos 0))
+  lineAt i = record { number = getD numbers i (pos 0); label = lowLabel (getD labels i (pos 0)) }
 
   pub first-at : (i : ℕ) → i < length first → drop i first ≡ lineAt i ∷ drop (i + 1) first
   first-at i h =
-      let l = length-take written (linesOf numbers marks) in
-      drop-cons first i (lineOf (pos 0) (pos 0)) h
+      let l = length-take written all in
+      drop-cons first i (lineAt i) h
       ∙ ap₂ (λ (x : Line) (n : ℕ). x ∷ drop n first)
-      (getD-take written (linesOf numbers marks) i (lineOf (pos 0) (pos 0)) (omega arith) ∙ linesOf-at numbers marks i (omega arith))
+      (getD-take written all i (lineAt i) (omega arith) ∙ paired-at _ (lineAt i) numbers labels i (omega arith))
       (sym (add-one i))
 
 -- ════════════════════════════════════════════════════════════════════════════════════════════

@@ -11,7 +11,7 @@ use Rattle.report.specs.declared.job.Item.{Item}
 use Rattle.report.specs.declared.job.Item.the-variants.{Cell, Allowance, Reader, Sheet, Bad}
 use Rattle.report.specs.declared.job.Job.{Job}
 use Rattle.report.specs.declared.job.Job.the-variants as Job
-use Rattle.report.specs.Job.{Heard, silence, withCell, withAllowance, withReader, Ending, bad, sheet, Reading, reading}
+use Rattle.report.specs.Job.{Heard, silence, Ending, bad, sheet, Reading, reading}
 use Rattle.report.specs.Job.{itemAt, follow, readFrom, readJob, answerOf, jobAnswer, fitted}
 
 -- ════════════════════════════════════════════════════════════════════════════════════════════

@@ -7,7 +7,7 @@ use lib.Dec.{ltb, leb, eqb}
 use Rattle.word.specs.declared.field.Field.{Field}
 use Rattle.word.specs.declared.field.Field.the-variants as Field
 use Rattle.word.specs.Field.{unsignedAt, signedAt}
-use Rattle.step.specs.Words.{choose}
+use Rattle.word.specs.Choose.{choose}
 use Rattle.report.specs.declared.job.Unsigned.{Unsigned}
 use Rattle.report.specs.declared.job.Unsigned.the-variants as Unsigned
 use Rattle.report.specs.declared.job.Item.{Item}

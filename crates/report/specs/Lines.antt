@@ -1,12 +1,10 @@
 -- The text of a page, in ASCII: each printed line ends in a newline (0a), and its parts are divided by one space (20).
 use Prim.Native.Nat.{ℕ}
 use mathlib.Core.List.{List, [], _∷_, _++_}
-use lib.IntN.{ℤ}
 use Rattle.word.specs.Text.{natural, decimal, hexadecimal}
 use Rattle.label.specs.Label.{flows}
-use Rattle.label.specs.Word.{lowLabel}
 use Rattle.machine.specs.Atom.{Line}
-use Rattle.step.specs.Words.{choose}
+use Rattle.word.specs.Choose.{choose}
 
 abbrev pub space : List ℕ
 space = 0x20 ∷ []
@@ -39,12 +37,3 @@ shownText reader x = choose (flows (x .label) reader) (lineText x) []
 unfoldable pub linesText : (reader : ℕ) → List Line → List ℕ
 linesText reader [] = []
 linesText reader (x ∷ xs) = shownText reader x ++ linesText reader xs
-
--- the lines of an output space: a number word and a label word each
-abbrev pub lineOf : ℤ → ℤ → Line
-lineOf number mark = record { number = number; label = lowLabel mark }
-
-unfoldable pub linesOf : List ℤ → List ℤ → List Line
-linesOf [] marks = []
-linesOf (n ∷ numbers) [] = []
-linesOf (n ∷ numbers) (m ∷ marks) = lineOf n m ∷ linesOf numbers marks

@@ -2,14 +2,15 @@
 pub mod job;
 mod print;
 
+use engine::Answer;
 use job::Job;
 use job::Said;
 use label::Label;
 use policy::row::Cache;
-use tagged::Answer;
 ghost use mathlib.Core.Path.{_≡_};
 ghost use Prim.Native.Nat.{_≤_};
 ghost use lib.ListN.{length, take, drop};
+ghost use Rattle.step.specs.Lent.{cells};
 ghost use Rattle.report.specs.Written.{Written};
 ghost use Rattle.report.specs.Page.{runText, pageOf, pageLimit, pageAnswer, pageOut};
 
@@ -32,7 +33,7 @@ fn run(
     out: &mut [u8],
 ) -> usize
     requires { ⌜ pageLimit ≤ length (now out) ⌝ }
-    ensures { λ r. ⌜ Written (runText (now (values .entry)) (now (labels .entry)) allowance (reader .0) (now (sheet .entry)))
+    ensures { λ r. ⌜ Written (runText (cells (now (values .entry)) (now (labels .entry))) allowance (reader .0) (now (sheet .entry)))
         (now (out .entry)) 0 r (now (out .exit)) ⌝ }
 {
     let table = policy::standard_table::bytes();
@@ -40,7 +41,7 @@ fn run(
     let mut stack = [0i64; 768];
     let mut handler = [0i64; 302];
     let mut numbers = [0i64; 1024];
-    let mut marks = [0i64; 1024];
+    let mut line_labels = [0i64; 1024];
     let ended = tagged::execute(
         sheet,
         values,
@@ -51,7 +52,7 @@ fn run(
         &mut stack,
         &mut handler,
         &mut numbers,
-        &mut marks,
+        &mut line_labels,
         allowance,
     );
     let answer = ended.answer;
@@ -60,7 +61,7 @@ fn run(
         Answer::Stopped(ran) => {
             let machine = ran.machine;
             let lines = machine.lines;
-            print::lines(&numbers, &marks, lines, reader, out)
+            print::lines(&numbers, &line_labels, lines, reader, out)
         }
     }
 }
@@ -68,7 +69,7 @@ fn run(
 // The cells are the first words of the two runs, and the sheet is the rest of the job.
 fn on_cells(job: &[u8], said: Said, values: &mut [i64], labels: &mut [i64], out: &mut [u8]) -> usize
     requires { ⌜ (said .cells ≤ length (now values)) × (said .cells ≤ length (now labels)) × (pageLimit ≤ length (now out)) ⌝ }
-    ensures { λ r. ⌜ Written (runText (take (said .cells) (now (values .entry))) (take (said .cells) (now (labels .entry)))
+    ensures { λ r. ⌜ Written (runText (cells (take (said .cells) (now (values .entry))) (take (said .cells) (now (labels .entry))))
         (said .allowance) (said .reader .0) (drop (said .sheet) (now (job .entry)))) (now (out .entry)) 0 r (now (out .exit)) ⌝ }
 {
     let count = said.cells;

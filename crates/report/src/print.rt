@@ -1,13 +1,15 @@
 // The text of a page, written from a position on into a space that has room for it. Read specs/Lines.antt first.
+use engine::room;
 use label::Label;
-use plain::start::smaller;
 use program::Refusal;
 use word::text::Put;
 ghost use mathlib.Core.Path.{_≡_};
 ghost use Prim.Native.Nat.{_+_, _*_, _≤_};
-ghost use lib.ListN.{length, take};
+ghost use lib.ListN.{length};
 ghost use Rattle.word.specs.Text.{natural, decimal, hexadecimal};
-ghost use Rattle.report.specs.Lines.{jobText, refusedText, lineText, shownText, linesOf, linesText};
+ghost use Rattle.engine.specs.Memory.{output};
+ghost use Rattle.engine.specs.Layout.{linesOf};
+ghost use Rattle.report.specs.Lines.{jobText, refusedText, lineText, shownText, linesText};
 ghost use Rattle.report.specs.Written.{Written, nextOf};
 
 fn bytes(text: &[u8], out: &mut [u8], at: usize) -> usize
@@ -101,21 +103,21 @@ fn shown(n: i64, label: Label, reader: Label, out: &mut [u8], at: usize) -> usiz
 // The first lines of an output space, those whose label flows to the reader's set.
 pub(crate) fn lines(
     numbers: &[i64],
-    marks: &[i64],
+    line_labels: &[i64],
     written: usize,
     reader: Label,
     out: &mut [u8],
 ) -> usize
     requires { ⌜ 30 * length (now numbers) ≤ length (now out) ⌝ }
-    ensures { λ r. ⌜ Written (linesText (reader .0) (take written (linesOf (now (numbers .entry)) (now (marks .entry)))))
+    ensures { λ r. ⌜ Written (linesText (reader .0) (linesOf written (output (now (numbers .entry)) (now («line_labels» .entry)))))
         (now (out .entry)) 0 r (now (out .exit)) ⌝ }
 {
-    let count = smaller(written, smaller(numbers.len(), marks.len()));
+    let count = room(written, room(numbers.len(), line_labels.len()));
     let mut at: usize = 0;
     let mut i: usize = 0;
     while i < count {
         let n = word::memory::at(numbers, i);
-        let label = Label::low(word::memory::at(marks, i));
+        let label = Label::low(word::memory::at(line_labels, i));
         at = shown(n, label, reader, out, at);
         i += 1;
     }

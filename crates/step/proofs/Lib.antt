@@ -1,4 +1,1 @@
-pub mod Kind
 pub mod Zero
-pub mod Entry
-pub mod Link

@@ -7,7 +7,7 @@ use lib.IntN.{ℤ, pos, negsuc}
 use mir.Syntax.{w64}
 use mir.Val.{SFits, ofZ}
 use borrow.Author.Tests.{eq-eqb, ne-eqb}
-use Rattle.step.specs.Phase.{isZero}
+use Rattle.step.specs.Effect.{isZero}
 
 pub zero-is : (z : ℤ) → SFits w64 z → ofZ w64 z ≡ 0 → isZero z ≡ true
 zero-is (pos n) f e = eq-eqb n 0 e

@@ -1,4 +1,3 @@
-pub mod Words
 pub mod Lent
-pub mod Phase
-pub mod Layout
+pub mod Find
+pub mod Effect

@@ -1,62 +1,63 @@
--- One command on words, by how it goes: what it finds stops it, the rule memory denies it, or it is carried out.
+-- One command on words under the rule memory, by how it goes: what it finds stops it, the rule memory denies it, or it is carried out.
 -- Assumes nothing.
-use mathlib.Core.Path.{_≡_, refl, sym, ap, _∙_}
+use mathlib.Core.Path.{_≡_, refl, ap, _∙_}
 use mathlib.Core.Bool.{Bool, true, false}
 use mathlib.Core.List.{List}
-use Prim.Native.Nat.{ℕ}
-use lib.IntN.{ℤ, pos}
+use native.Mathlib.Nat.{zero-add}
+use lib.IntN.{ℤ}
 use lib.Dec.{eqb}
 use borrow.Author.Tests.{eq-eqb, ne-eqb}
+use Rattle.word.specs.Choose.{choose}
 use Rattle.word.specs.Wrap.{residue}
-use Rattle.machine.specs.Rule.{allowedIf}
-use Rattle.step.specs.declared.Machine.{Machine}
-use Rattle.step.specs.declared.phase.Inputs.{Inputs}
-use Rattle.step.specs.Words.{choose}
-use Rattle.step.specs.Lent.{outcome, Lent, After, after}
-use Rattle.step.specs.Phase.{inputsOf, effectOf}
+use Rattle.machine.specs.Rule.{Verdict, allowedIf}
+use Rattle.stack.specs.declared.Machine.{Machine}
+use Rattle.stack.specs.Words.{outcome, carriedOut}
+use Rattle.step.specs.declared.find.Inputs.{Inputs}
+use Rattle.step.specs.Lent.{Lent, After, after}
+use Rattle.step.specs.Find.{findOf}
+use Rattle.step.specs.Effect.{effectOf}
+use Rattle.engine.specs.Act.{Asked, Acted, acted, ruled, actFound, actOf}
 use Rattle.handler.specs.Kernel.{Result}
-use Rattle.tagging.specs.Consult.{Tag, tag, Consulted, consult}
-use Rattle.tagged.specs.declared.consult.Ruling as Code
-use Rattle.tagged.specs.Ruling.{rulingOf}
-use Rattle.tagged.specs.Loop.{Acted, acted, unasked, added, five, actRuled, actAsked, actFound, actOf}
+use Rattle.tagging.specs.Consult.{Tag, tag, Consulted, consult, counted}
+use Rattle.tagged.specs.declared.consult.Ruling.{Ruling}
+use Rattle.tagged.specs.Ruling.{fiveFor, tagWords, rulingOf}
 
-module _ (handler : List ℤ → Result) (room : ℕ) (word operand : ℤ) (m : Machine) (l : Lent) (row : List ℤ) where
-  abbrev acts : Acted
-  acts = actOf handler room word operand m l row
+module _ (handler : List ℤ → Result) (word operand : ℤ) (m : Machine) (l : Lent) (row : List ℤ) where
+  abbrev u : Tag
+  u = tag row 0 0
 
-  abbrev inputs : Inputs
-  inputs = inputsOf (residue 64 word) m (l .stack) (l .values) (l .labels)
+  abbrev acts : Acted Tag
+  acts = actOf (tagWords handler) word operand m u l
 
-  -- the lent runs and the record after it, and what it adds to the rule memory's counts
-  abbrev pub Leaves : After → Tag → Type 0
-  Leaves a t = (a ≡ acts .after) × (t ≡ added (acts .consulted))
+  abbrev asks : Inputs → Asked
+  asks i = record { code = word; pc = m .label .0; inputs = i }
 
-  leaves : (x : Acted) → x ≡ acts → Leaves (x .after) (added (x .consulted))
-  leaves x e = (ap (λ (y : Acted). y .after) e, ap (λ (y : Acted). added (y .consulted)) e)
+  -- what a verdict does
+  abbrev does : Verdict → After
+  does v = ruled (tagWords handler) word operand m u l v
 
-  module _ (i : Inputs) (found : i ≡ inputs) where
+  module _ (i : Inputs) (found : i ≡ findOf (residue 64 word) m l) where
     -- the test of the stop decides
-    by-stop : (b : Bool) → eqb (i .stop) 9 ≡ b
-        → choose b (actAsked handler room word operand m l (consult handler (five word m i) row)) (acted (after (outcome m (i .stop)) l) (unasked row)) ≡ acts
+    by-stop : (b : Bool) → eqb (i .stop) carriedOut ≡ b
+        → let c : Consulted = consult handler (fiveFor (asks i)) row in
+        choose b (acted (does (c .verdict)) (counted u c)) (acted (after (outcome m (i .stop)) l) u) ≡ acts
     unfolding actOf
-    by-stop b e =
-        ap (λ (x : Bool). choose x (actAsked handler room word operand m l (consult handler (five word m i) row)) (acted (after (outcome m (i .stop)) l) (unasked row))) (sym e)
-        ∙ ap (λ (j : Inputs). actFound handler room word operand m l j row) found
+    by-stop b e = rw (← e) (ap (actFound (tagWords handler) word operand m u l) found)
 
-    pub act-halted : (i .stop ≡ 9 → ⊥) → Leaves (after (outcome m (i .stop)) l) (tag row 0 0)
-    act-halted e = leaves (acted (after (outcome m (i .stop)) l) (unasked row)) (by-stop false (ne-eqb (i .stop) 9 e))
+    pub act-halted : (i .stop ≡ carriedOut → ⊥) → acted (after (outcome m (i .stop)) l) u ≡ acts
+    act-halted e = by-stop false (ne-eqb (i .stop) carriedOut e)
 
-    module _ (stop : i .stop ≡ 9) (r : Code.Ruling) (ruled : rulingOf r ≡ consult handler (five word m i) row) where
-      asked : actAsked handler room word operand m l (rulingOf r) ≡ acts
-      asked = ap (actAsked handler room word operand m l) ruled ∙ by-stop true (eq-eqb (i .stop) 9 stop)
+    module _ (stop : i .stop ≡ carriedOut) (r : Ruling) (rules : rulingOf r ≡ consult handler (fiveFor (asks i)) row) where
+      act-ruled : (b : Bool) → r .allowed ≡ b → (a : After) → a ≡ does (allowedIf b (r .place .0) (r .result .0))
+          → acted a (tag (r .cache .words) (r .faults) (r .steps)) ≡ acts
+      act-ruled b e a d =
+          let x : acted (does (rulingOf r .verdict)) (counted u (rulingOf r)) ≡ acts =
+          ap (λ c. acted (does (c .verdict)) (counted u c)) rules ∙ by-stop true (eq-eqb (i .stop) carriedOut stop) in
+          rw d (rw (e, zero-add (r .faults), zero-add (r .steps)) at x)
 
-      pub act-allowed : r .allowed ≡ true → (a : After) → a ≡ effectOf (r .place .0) (r .result .0) m room (residue 64 word) operand l
-          → Leaves a (tag (r .cache .words) (r .faults) (r .steps))
-      act-allowed e a d =
-          let (x, y) = leaves (actAsked handler room word operand m l (rulingOf r)) asked in
-          (d ∙ sym (ap (λ (b : Bool). actRuled handler room word operand m l (allowedIf b (r .place .0) (r .result .0))) e) ∙ x, y)
+      pub act-allowed : r .allowed ≡ true → (a : After) → a ≡ effectOf (r .place .0) (r .result .0) m (residue 64 word) operand l
+          → acted a (tag (r .cache .words) (r .faults) (r .steps)) ≡ acts
+      act-allowed e a d = act-ruled true e a d
 
-      pub act-denied : r .allowed ≡ false → Leaves (after (outcome m 6) l) (tag (r .cache .words) (r .faults) (r .steps))
-      act-denied e =
-          let (x, y) = leaves (actAsked handler room word operand m l (rulingOf r)) asked in
-          (sym (ap (λ (b : Bool). actRuled handler room word operand m l (allowedIf b (r .place .0) (r .result .0))) e) ∙ x, y)
+      pub act-denied : r .allowed ≡ false → acted (after (outcome m 6) l) (tag (r .cache .words) (r .faults) (r .steps)) ≡ acts
+      act-denied e = act-ruled false e _ refl

@@ -1,7 +1,6 @@
 pub mod Seven
-pub mod Simulate
-pub mod Whole
+pub mod Acting
+pub mod Counts
+pub mod Following
 pub mod Starting
 pub mod Accepted
-pub mod Acting
-pub mod Going

@@ -1,22 +1,21 @@
--- Words as the code compares them, and seven words written one at a time.
+-- Words as the code compares them, seven words written one at a time, and consulting by how it goes.
 -- Assumes nothing.
 use mathlib.Core.Path.{_≡_, refl, sym, ap, _∙_}
 use mathlib.Core.Bool.{Bool, true, false}
 use mathlib.Core.List.{List, [], _∷_}
-use Prim.Native.Nat.{ℕ}
-use native.Mathlib.Omega.{arith}
+use Prim.Native.Nat.{_<_, _^_}
 use lib.IntN.{ℤ}
+use lib.Signed.{mag}
 use lib.ListN.{length, set}
 use lib.Dec.{eqb}
 use borrow.Author.Tests.{eqb-true, eq-eqb}
 use mir.Syntax.{w64}
 use mir.Val.{SFits, toZ, ofZ}
-use Rattle.word.proofs.Signed.{back}
-use Rattle.handler.specs.Kernel.{Outcome, returned, failed, Result}
-use Rattle.handler.specs.Kernel as Kernel
-use Rattle.tagging.specs.Consult.{sameWord, Five, words, matches, missed, Consulted, faulted, consultIf, consult}
+use Rattle.word.proofs.Signed.{back, back-ok}
+use Rattle.handler.specs.Kernel.{Outcome, Result}
+use Rattle.tagging.specs.Consult.{sameWord, Five, matches, missed, Consulted, faulted, consultIf, consult}
 use Rattle.tagging.proofs.Rules.{words-all, same-word, word-same}
-use Rattle.tagged.specs.Ruling.{ruling, ruledAgain}
+use Rattle.tagged.specs.Ruling.{ruling}
 
 -- words are compared by their bits
 pub same-test : (a b : ℤ) → SFits w64 a → SFits w64 b → eqb (ofZ w64 a) (ofZ w64 b) ≡ sameWord a b
@@ -32,16 +31,15 @@ same-test a b f g = go (eqb (ofZ w64 a) (ofZ w64 b)) (sameWord a b) refl refl
         let k : b ≡ a = same-word a b e in
         sym d ∙ ap (λ (z : ℤ). eqb (ofZ w64 a) (ofZ w64 z)) k ∙ eq-eqb (ofZ w64 a) (ofZ w64 a) refl
 
+-- a word that is read back from its bits matches as the test says
+pub tested : (a b : ℤ) {x y : Bool} → mag a < 2 ^ 63 → x ≡ sameWord (toZ w64 (ofZ w64 a)) b → x ≡ y → sameWord a b ≡ y
+tested a b h d e = sym (d ∙ ap (λ z. sameWord z b) (back-ok a h)) ∙ e
+
 -- seven words are written, one at a time
 pub seven-written : (ws : List ℤ) → length ws ≡ 7 → (a b c d e f g : ℤ)
     → set (set (set (set (set (set (set ws 0 a) 1 b) 2 c) 3 d) 4 e) 5 f) 6 g ≡ a ∷ b ∷ c ∷ d ∷ e ∷ f ∷ g ∷ []
 seven-written ws size a b c d e f g =
     ap (λ (x : List ℤ). set (set (set (set (set (set (set x 0 a) 1 b) 2 c) 3 d) 4 e) 5 f) 6 g) (words-all 7 ws size)
-
--- the five words, each read back from its bits
-pub five-back : {a b c d e : ℤ} → SFits w64 a → SFits w64 b → SFits w64 c → SFits w64 d → SFits w64 e
-    → words (toZ w64 (ofZ w64 a)) (toZ w64 (ofZ w64 b)) (toZ w64 (ofZ w64 c)) (toZ w64 (ofZ w64 d)) (toZ w64 (ofZ w64 e)) ≡ words a b c d e
-five-back {a} {b} {c} {d} {e} f g h i j = rw (back {z = a} f, back {z = b} g, back {z = c} h, back {z = d} i, back {z = e} j)
 
 -- ════════════════════════════════════════════════════════════════════════════════════════════
 -- Consulting, by how it goes
@@ -52,19 +50,11 @@ module _ (handler : List ℤ → Result) (f : Five) (ws : List ℤ) where
   unfolding consult
   consult-hit e = ap (λ (b : Bool). consultIf b handler f ws) (sym e)
 
-  pub consult-missed : matches f ws ≡ false → (x : Result) → x ≡ handler (missed f) → faulted f x ≡ consult handler f ws
+  -- what a fault comes to, by the outcome of the handler
+  abbrev pub fault : Result → Outcome → Consulted
+  fault x o = faulted f (record { outcome = o; row = x .row; steps = x .steps })
+
+  pub consult-fault : matches f ws ≡ false → (x : Result) → x ≡ handler (missed f) → (o : Outcome) → x .outcome ≡ o
+      → fault x o ≡ consult handler f ws
   unfolding consult
-  consult-missed e x d = ap (faulted f) d ∙ ap (λ (b : Bool). consultIf b handler f ws) (sym e)
-
-module _ (f : Five) (row : List ℤ) (steps : ℕ) (o : Outcome) where
-  abbrev handled : Result
-  handled = record { outcome = o; row = row; steps = steps }
-
-  pub again-faulted : o ≡ returned → ruledAgain f row steps ≡ faulted f handled
-  again-faulted e = rw e
-
-  pub denied-faulted : o ≡ Kernel.denied → ruling false row 1 steps ≡ faulted f handled
-  denied-faulted e = rw e
-
-  pub failed-faulted : o ≡ failed → ruling false row 1 steps ≡ faulted f handled
-  failed-faulted e = rw e
+  consult-fault e x d o k = ap (fault x) (sym k) ∙ ap (faulted f) d ∙ ap (λ (b : Bool). consultIf b handler f ws) (sym e)

@@ -1,4 +1,3 @@
 pub mod Ruling
 pub mod Start
-pub mod Loop
 pub mod Tagged

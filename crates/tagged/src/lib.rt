@@ -1,32 +1,28 @@
-// The tag engine: document 01's machine with its rules as data. Read in tagging/specs/: Consult, Run; then in specs/: Start, Tagged.
-// What is shown of it is said in tagging/specs/Claim.antt and in demands.
+// The tag engine: document 01's machine with its rules as data. Read in tagging/specs/: Consult; then in specs/: Ruling, Start, Tagged.
+// What is shown of it is said in tagging/specs/Claim.antt and in claims.
 mod consult;
 mod run;
 mod start;
 
+use engine::Answer;
+use engine::start::Given;
 use policy::row::Cache;
 use program::Checked;
-use program::Refusal;
-pub use run::Ran;
-use translator::translate;
 ghost use mathlib.Core.Path.{_≡_};
-ghost use Rattle.plain.specs.Plain.{memory};
-ghost use Rattle.tagged.specs.Tagged.{ended, tagged};
+ghost use Rattle.step.specs.Lent.{cells, lent};
+ghost use Rattle.engine.specs.Memory.{output, memory};
+ghost use Rattle.tagged.specs.Tagged.{left, endedBy, tagged};
 
-// The answer: a refusal before the first step, or where the run ended.
-pub enum Answer {
-    Refused(Refusal),
-    Stopped(Ran),
-}
-
-// The answer, and the rule memory at the end.
+// The answer, the rule memory at the end, the commands that did not match and the kernel steps.
 pub struct Tagged {
     pub answer: Answer,
     pub cache: Cache,
+    pub faults: u64,
+    pub kernel: u64,
 }
 
-// Checks everything, and then runs the sheet on the lent cells to one named stop, under the rules of the table. A refusal leaves every
-// lent run and the rule memory as they came.
+// Checks everything, and then runs the sheet on the lent cells to one named stop, under the rules of the table. A refusal, of 1 to 9 with
+// its place, leaves every lent run and the rule memory as they came.
 pub fn execute(
     sheet: &[u8],
     values: &mut [i64],
@@ -37,38 +33,40 @@ pub fn execute(
     stack: &mut [i64],
     handler: &mut [i64],
     numbers: &mut [i64],
-    marks: &mut [i64],
+    line_labels: &mut [i64],
     fuel: u64,
 ) -> Tagged
-    ensures { λ r. ⌜ ended (r .answer) (r .cache .words)
-        (memory (now (values .exit)) (now (labels .exit)) (now (program .exit)) (now (stack .exit)) (now (numbers .exit)) (now (marks .exit)))
+    ensures { λ r. ⌜ left (endedBy r
+        (memory (now (program .exit)) (lent (now (stack .exit)) (cells (now (values .exit)) (now (labels .exit))))
+        (output (now (numbers .exit)) (now («line_labels» .exit)))))
         (now (handler .exit))
         ≡ tagged (now (sheet .entry)) (now (table .entry)) (cache .words)
-        (memory (now (values .entry)) (now (labels .entry)) (now (program .entry)) (now (stack .entry)) (now (numbers .entry)) (now (marks .entry)))
+        (memory (now (program .entry)) (lent (now (stack .entry)) (cells (now (values .entry)) (now (labels .entry))))
+        (output (now (numbers .entry)) (now («line_labels» .entry))))
         (now (handler .entry)) fuel ⌝ }
 {
-    let checked = start::check(
-        sheet,
-        values.len(),
-        labels,
-        table,
-        cache,
-        program.len(),
-        stack.len(),
-        handler.len(),
+    let measured = translator::measure(table);
+    let size = start::size(measured);
+    let own = start::own(measured, table, cache, handler.len());
+    let given = Given {
+        values: values.len(),
+        program: program.len(),
+        stack: stack.len(),
         fuel,
-    );
+    };
+    let checked = engine::start::check(sheet, labels, given, own);
     match checked {
         Checked::Refused(r) => Tagged {
             answer: Answer::Refused(r),
             cache,
+            faults: 0,
+            kernel: 0,
         },
         Checked::Accepted(count) => {
-            program::load(sheet, program);
-            translate(table, handler);
-            let size = translator::count(table);
-            let room = plain::start::smaller(numbers.len(), marks.len());
-            let left = run::go(
+            program::write(sheet, program);
+            translator::write(table, handler);
+            let room = engine::room(numbers.len(), line_labels.len());
+            let end = run::go(
                 count,
                 room,
                 fuel,
@@ -80,13 +78,15 @@ pub fn execute(
                 values,
                 labels,
                 numbers,
-                marks,
+                line_labels,
             );
-            let ran = left.ran;
-            let row = left.cache;
+            let ran = end.ran;
+            let row = end.cache;
             Tagged {
                 answer: Answer::Stopped(ran),
                 cache: row,
+                faults: end.faults,
+                kernel: end.kernel,
             }
         }
     }

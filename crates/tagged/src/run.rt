@@ -1,31 +1,28 @@
-// One loop over the commands.
+// One loop over the commands. Read engine/specs/Loop.antt first.
 use crate::consult::consult;
+use crate::consult::five_words;
+use engine::Ran;
 use policy::row::Cache;
-use step::Machine;
-use step::phase::effect;
-use step::phase::find;
+use stack::CARRIED;
+use stack::Machine;
+use stack::Stepped;
+use step::effect::effect;
+use step::find::find;
 use word::number::Index;
 ghost use mathlib.Core.Path.{_≡_};
 ghost use Prim.Native.Nat.{_≤_};
-ghost use Rattle.step.specs.Words.{started};
-ghost use Rattle.step.specs.Lent.{outcome, after, lent};
+ghost use Rattle.stack.specs.Words.{started};
+ghost use Rattle.step.specs.Lent.{cells, lent, after};
+ghost use Rattle.engine.specs.Memory.{output};
+ghost use Rattle.engine.specs.Act.{acted, actOf};
+ghost use Rattle.engine.specs.Loop.{ran, done, loopOf};
 ghost use Rattle.handler.specs.Space.{handleSpace};
 ghost use Rattle.tagging.specs.Consult.{tag};
-ghost use Rattle.tagged.specs.Loop.{added, actOf, ranWith, doneOf, loopOf};
+ghost use Rattle.tagged.specs.Ruling.{tagWords};
 
-// Where a run ended: the machine record, the stop, the steps, the commands that did not match and the kernel steps.
-pub struct Ran {
-    pub machine: Machine,
-    pub stop: u64,
-    pub steps: u64,
-    pub faults: u64,
-    pub kernel: u64,
-}
-
-// A command that was carried out or stopped: stop 9 stands for none. The rule memory, a fault or none, and the kernel steps.
+// A command that was carried out or stopped, and what the ruler keeps: the rule memory, and a fault and its kernel steps more, or none.
 struct Acted {
-    machine: Machine,
-    stop: u64,
+    stepped: Stepped,
     cache: Cache,
     faults: u64,
     kernel: u64,
@@ -35,13 +32,14 @@ struct Acted {
 pub(crate) struct Left {
     pub ran: Ran,
     pub cache: Cache,
+    pub faults: u64,
+    pub kernel: u64,
 }
 
 // One command: what it finds; the rule memory, which is consulted after the address and before room; what it does.
 fn act(
     space: &[i64],
-    count: usize,
-    room: usize,
+    size: usize,
     word: i64,
     operand: i64,
     m: Machine,
@@ -49,88 +47,68 @@ fn act(
     stack: &mut [i64],
     values: &mut [i64],
     labels: &mut [i64],
-    numbers: &mut [i64],
-    marks: &mut [i64],
 ) -> Acted
-    ensures did { λ r. ⌜ after (outcome (r .machine) (r .stop))
-        (lent (now (stack .exit)) (now (values .exit)) (now (labels .exit)) (now (numbers .exit)) (now (marks .exit)))
-        ≡ actOf (handleSpace (now (space .entry)) count) room word operand m
-        (lent (now (stack .entry)) (now (values .entry)) (now (labels .entry)) (now (numbers .entry)) (now (marks .entry))) (cache .words) .after ⌝ }
-    ensures adds { λ r. ⌜ tag (r .cache .words) (r .faults) (r .kernel)
-        ≡ added (actOf (handleSpace (now (space .entry)) count) room word operand m
-        (lent (now (stack .entry)) (now (values .entry)) (now (labels .entry)) (now (numbers .entry)) (now (marks .entry))) (cache .words) .consulted) ⌝ }
+    ensures { λ r. ⌜ acted (after (r .stepped) (lent (now (stack .exit)) (cells (now (values .exit)) (now (labels .exit)))))
+        (tag (r .cache .words) (r .faults) (r .kernel))
+        ≡ actOf (tagWords (handleSpace (now (space .entry)) size)) word operand m (tag (cache .words) 0 0)
+        (lent (now (stack .entry)) (cells (now (values .entry)) (now (labels .entry)))) ⌝ }
 {
     let code = word::wrap::to_bits(word);
-    let pc = m.label.word();
+    let place = m.label;
     let found = find(code, m, stack, values, labels);
-    let halt = found.stop;
-    if halt != 9 {
+    let stop = found.stop;
+    if stop != CARRIED {
         return Acted {
-            machine: m,
-            stop: halt,
+            stepped: stack::stopped(m, stop),
             cache,
             faults: 0,
             kernel: 0,
         };
     }
-    let ruling = consult(
-        space,
-        count,
-        word,
-        pc,
-        found.input1,
-        found.input2,
-        found.input3,
-        cache,
-    );
+    let ruling = consult(space, size, five_words(word, place, found), cache);
     let row = ruling.cache;
     let faults = ruling.faults;
     let kernel = ruling.steps;
     if ruling.allowed {
-        let done = effect(
+        let stepped = effect(
             ruling.place,
             ruling.result,
             m,
-            room,
             code,
             operand,
             stack,
             values,
             labels,
-            numbers,
-            marks,
         );
-        let machine = done.machine;
-        let stop = done.stop;
         return Acted {
-            machine,
-            stop,
+            stepped,
             cache: row,
             faults,
             kernel,
         };
     }
     Acted {
-        machine: m,
-        stop: 6,
+        stepped: stack::stopped(m, 6),
         cache: row,
         faults,
         kernel,
     }
 }
 
-fn ended(machine: Machine, stop: u64, steps: u64, faults: u64, kernel: u64, cache: Cache) -> Left
-    ensures ran { λ r. ⌜ r .ran ≡ ranWith machine stop steps faults kernel ⌝ }
-    ensures memory { λ r. ⌜ r .cache .words ≡ cache .words ⌝ }
+fn ended(machine: Machine, stop: u64, steps: u64, cache: Cache, faults: u64, kernel: u64) -> Left
+    ensures { λ r. ⌜ r ≡ record { ran = ran machine stop steps; cache = cache; faults = faults; kernel = kernel } ⌝ }
 {
     let ran = Ran {
         machine,
         stop,
         steps,
+    };
+    Left {
+        ran,
+        cache,
         faults,
         kernel,
-    };
-    Left { ran, cache }
+    }
 }
 
 // Runs a loaded program of `count` commands from the start, for at most `fuel` steps, with the handler of `size` instructions in `space`.
@@ -146,13 +124,16 @@ pub(crate) fn go(
     values: &mut [i64],
     labels: &mut [i64],
     numbers: &mut [i64],
-    marks: &mut [i64],
+    line_labels: &mut [i64],
 ) -> Left
     requires { ⌜ (count ≤ 4096) × (size ≤ 8192) × (fuel ≤ 1000000) ⌝ }
-    ensures { λ r. ⌜ doneOf (r .ran) (r .cache .words)
-        (lent (now (stack .exit)) (now (values .exit)) (now (labels .exit)) (now (numbers .exit)) (now (marks .exit)))
-        ≡ loopOf (handleSpace (now (space .entry)) size) count room (now (program .entry)) fuel 0 started (tag (memory .words) 0 0)
-        (lent (now (stack .entry)) (now (values .entry)) (now (labels .entry)) (now (numbers .entry)) (now (marks .entry))) ⌝ }
+    ensures { λ r. ⌜ done (r .ran) (tag (r .cache .words) (r .faults) (r .kernel))
+        (lent (now (stack .exit)) (cells (now (values .exit)) (now (labels .exit))))
+        (output (now (numbers .exit)) (now («line_labels» .exit)))
+        ≡ loopOf (tagWords (handleSpace (now (space .entry)) size)) count room (now (program .entry)) fuel 0 started
+        (tag (memory .words) 0 0)
+        (lent (now (stack .entry)) (cells (now (values .entry)) (now (labels .entry))))
+        (output (now (numbers .entry)) (now («line_labels» .entry))) ⌝ }
 {
     let mut m = Machine::start();
     let mut cache = memory;
@@ -165,36 +146,25 @@ pub(crate) fn go(
             Index::At(i) => {
                 let word = word::memory::at(program, 2 * i);
                 let operand = word::memory::at(program, 2 * i + 1);
-                let r = act(
-                    space,
-                    size,
-                    room,
-                    word,
-                    operand,
-                    m,
-                    cache,
-                    stack,
-                    values,
-                    labels,
-                    numbers,
-                    marks,
-                );
-                m = r.machine;
+                let r = act(space, size, word, operand, m, cache, stack, values, labels);
+                let stepped = r.stepped;
+                let w = engine::emit(m, stepped, room, numbers, line_labels);
+                m = w.machine;
                 cache = r.cache;
                 faults += r.faults;
                 kernel += r.kernel;
-                let stop = r.stop;
-                if stop != 9 {
-                    return ended(m, stop, steps, faults, kernel, cache);
+                let stop = w.stop;
+                if stop != CARRIED {
+                    return ended(m, stop, steps, cache, faults, kernel);
                 }
                 steps += 1;
             }
             Index::Outside => {
-                let stop = plain::run::end_or(m, count, 2);
-                return ended(m, stop, steps, faults, kernel, cache);
+                let stop = engine::end_or(m, count, 2);
+                return ended(m, stop, steps, cache, faults, kernel);
             }
         }
     }
-    let stop = plain::run::end_or(m, count, 1);
-    ended(m, stop, steps, faults, kernel, cache)
+    let stop = engine::end_or(m, count, 1);
+    ended(m, stop, steps, cache, faults, kernel)
 }

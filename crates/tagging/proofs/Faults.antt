@@ -8,18 +8,16 @@ use native.Mathlib.Nat.{add-mul}
 use native.Mathlib.Omega.{arith}
 use lib.ListN.{length}
 use Rattle.program.specs.declared.Command.{Command}
+use Rattle.machine.specs.Rule.{rules}
 use Rattle.machine.specs.State.{State}
-use Rattle.machine.specs.Step.{Outcome, stopped, stepped, Request, halt, ask, request, execute}
-use Rattle.machine.specs.Run.{step}
+use Rattle.machine.specs.Step.{Outcome, stopped, stepped, Request, halt, ask, request, keyOf, execute}
+use Rattle.machine.specs.Run.{step, askedBy, asked, run}
 use Rattle.machine.proofs.Execute.{Sound, execute-sound}
-use Rattle.machine.proofs.Step.{Gives, gives-stepped}
-use Rattle.step.proofs.Link.Phases.{keyOf}
+use Rattle.machine.proofs.Step.{Gives, gives-stepped, step-both, run-induction}
 use Rattle.handler.specs.Kernel.{Instruction, handle}
 use Rattle.handler.proofs.Effect.{handle-steps}
-use Rattle.tagging.specs.Consult.{Tag, Five, fiveOf, matches, missed, consultIf, consult, counted}
-use Rattle.tagging.specs.Run.{rules, tagRequest, tagStep, tagRun}
+use Rattle.tagging.specs.Consult.{Tag, Five, fiveOf, matches, missed, consultIf, consult, counted, tagRuler}
 use Rattle.tagging.specs.Claim.{Adds}
-use Rattle.tagging.proofs.Steps.{step-both, tag-induction}
 
 -- what one command adds: at most one fault, with its kernel steps
 record Grows (limit : ℕ) (u w : Tag) : Type 0 where
@@ -41,7 +39,7 @@ module _ (handler : List Instruction) where
       go false =
           let h = handle-steps handler (missed f) in record { more = 1; one = omega arith; faults = refl; kernelSteps = omega arith }
 
-  request-grows : (c : Command) (s : State) (u : Tag) (q : Request) → Grows (length handler) u (tagRequest handler c s u q)
+  request-grows : (c : Command) (s : State) (u : Tag) (q : Request) → Grows (length handler) u (askedBy (tagRuler handler) c s u q)
   request-grows c s u (halt x) = grows-none u
   request-grows c s u (ask l1 l2 l3 k) = consult-grows u (fiveOf (keyOf c s l1 l2 l3))
 
@@ -50,22 +48,23 @@ module _ (handler : List Instruction) where
     abbrev Counting : State → Tag → Outcome → Tag → Type 0
     Counting s u o w = Grows (length handler) u w × Gives (λ v. v .steps ≡ suc (s .steps)) o
 
-    step-grows : (s : State) (u : Tag) → Counting s u (step (rules handler u) room cs s) (tagStep handler room cs s u)
+    step-grows : (s : State) (u : Tag) → Counting s u (step (rules (tagRuler handler) u) room cs s) (asked (tagRuler handler) room cs s u)
     step-grows s u =
-        step-both handler (rules handler u) room s u (Counting s u) (grows-none u, tt) cs
+        step-both (tagRuler handler) (rules (tagRuler handler) u) room s u (Counting s u) cs
         (λ c at. (
           request-grows c s u (request room c s),
-          steps c (execute (rules handler u) room c s) (execute-sound (rules handler u) room c s),
+          steps c (execute (rules (tagRuler handler) u) room c s) (execute-sound (rules (tagRuler handler) u) room c s),
         ))
+        (λ out. (grows-none u, tt))
       where
-        steps : (c : Command) (o : Outcome) → Sound (rules handler u) room c s o → Gives (λ v. v .steps ≡ suc (s .steps)) o
+        steps : (c : Command) (o : Outcome) → Sound (rules (tagRuler handler) u) room c s o → Gives (λ v. v .steps ≡ suc (s .steps)) o
         steps c (stopped x) h = tt
         steps c (stepped v) h = h .steps
 
     -- the counts of a run: its faults are among its commands, each of them within the handler's length
-    pub tag-counts : (fuel : ℕ) (s : State) (u : Tag) → Adds (length handler) s u (tagRun handler room cs fuel s u)
+    pub tag-counts : (fuel : ℕ) (s : State) (u : Tag) → Adds (length handler) s u (run (tagRuler handler) room cs fuel s u)
     tag-counts =
-        tag-induction handler room cs (λ fuel s u r. Adds (length handler) s u r)
+        run-induction (tagRuler handler) room cs (λ fuel s u r. Adds (length handler) s u r)
         (λ fuel s u e. record { more = 0; faults = omega arith; most = omega arith; kernelSteps = omega arith })
         (λ s u e. record { more = 0; faults = omega arith; most = omega arith; kernelSteps = omega arith })
         (λ fuel s u x e g.

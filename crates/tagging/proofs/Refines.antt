@@ -1,22 +1,20 @@
 -- Demand 2: a run of the tag engine with the handler of a rule table is the machine's run under that table.
 -- Assumes nothing.
-use mathlib.Core.Path.{_≡_, refl, sym, subst, ap, _∙_, fun-ext}
-use mathlib.Core.Bool.{Bool, true, false}
+use mathlib.Core.Path.{_≡_, refl, subst, ap, _∙_, fun-ext}
 use mathlib.Core.List.{List}
-use Prim.Native.Nat.{ℕ, zero, suc}
-use lib.IntN.{ℤ}
-use lib.ListN.{length}
-use Rattle.word.specs.Lay.{laid}
+use Prim.Native.Nat.{ℕ}
 use Rattle.program.specs.declared.Command.{Command}
-use Rattle.machine.specs.Rule.{Key, Verdict, denied, allowed, standard}
-use Rattle.machine.specs.State.{State, Stop, fuelSpent}
-use Rattle.machine.specs.Step.{Outcome, stopped, stepped, Request, halt, ask, request, decide, consult, execute}
-use Rattle.machine.specs.Run.{atEnd, step, run}
+use Rattle.machine.specs.Rule.{Key, Verdict, denied, allowed, Ruler, rules, fixed, standard}
+use Rattle.machine.specs.State.{State}
+use Rattle.machine.specs.Step.{Outcome, stopped, stepped, Request, halt, ask, request, keyOf, decide, consult, execute}
+use Rattle.machine.specs.Run.{step, askedBy, asked, Result, run}
 use Rattle.machine.specs.Stopped.{CommandAt}
 use Rattle.machine.specs.Holds.{LabelsInRange}
-use Rattle.machine.proofs.Run.{run-end, run-stopped, run-stepped}
-use Rattle.step.specs.Layout.{stackWords, spaceAfter, spaceUnless, stackAfter}
-use Rattle.step.proofs.Link.Phases.{keyOf}
+use Rattle.machine.proofs.Step.{gives-stepped, step-both, run-induction}
+use Rattle.machine.proofs.Alike.{AnswersAlike, step-alike, Alike, run-alike, along-alike}
+use Rattle.machine.proofs.Holds.{step-range}
+use Rattle.machine.proofs.Asked.{Roomy, Asks, request-asks}
+use Rattle.engine.specs.Layout.{stackLaid}
 use Rattle.policy.specs.Expression.{Table}
 use Rattle.policy.specs.Evaluate.{evaluate}
 use Rattle.policy.specs.Read.{table, readTable}
@@ -26,31 +24,35 @@ use Rattle.policy.proofs.Standard.{evaluate-standard, standard-read}
 use Rattle.policy.proofs.Writable.{read-writable}
 use Rattle.handler.specs.Translate.{translate}
 use Rattle.handler.specs.Claim.{rowOf}
-use Rattle.tagging.specs.Consult.{Tag, counted}
-use Rattle.tagging.specs.Run.{Result, consulted, rules, tagRequest, tagStep, tagRun, tagStack}
+use Rattle.tagging.specs.Consult.{Tag, tagRuler}
 use Rattle.tagging.specs.Claim.{Fits, Leaves, Claim}
-use Rattle.tagging.proofs.Asked.{evaluate-range, Roomy, Asks, request-asks}
+use Rattle.tagging.proofs.Ruled.{rules-range}
 use Rattle.tagging.proofs.Rules.{row-fits, consult-table}
-use Rattle.tagging.proofs.Steps.{Alike, step-alike, step-both, step-range, tag-induction}
 use Rattle.tagging.proofs.Faults.{tag-counts}
 
--- ════════════════════════════════════════════════════════════════════════════════════════════
--- One step
--- ════════════════════════════════════════════════════════════════════════════════════════════
-
 module _ (t : Table) (well : TableWritable t) (room : ℕ) (cs : List Command) where
-  module _ (s : State) (u : Tag) (range : LabelsInRange s) (fits : Fits t (u .row)) where
-    rules-alike : (c : Command) (q : Request) → Asks c s q → Alike (rules (translate t) u) (evaluate t) room s c q
+  abbrev ρ : Ruler Tag
+  ρ = tagRuler (translate t)
+
+  -- ══════════════════════════════════════════════════════════════════════════════════════════
+  -- One step, from labels in range and an accepted row
+  -- ══════════════════════════════════════════════════════════════════════════════════════════
+
+  abbrev Ready : State → Tag → Type 0
+  Ready s u = LabelsInRange s × Fits t (u .row)
+
+  module _ (s : State) (u : Tag) (ready : Ready s u) where
+    rules-alike : (c : Command) (q : Request) → Asks c s q → AnswersAlike (rules ρ u) (evaluate t) room s c q
     rules-alike c (halt x) a = tt
-    rules-alike c (ask l1 l2 l3 k) a = consult-table t (keyOf c s l1 l2 l3) (a .0) well (u .row) fits .verdict
+    rules-alike c (ask l1 l2 l3 k) a = consult-table t (keyOf c s l1 l2 l3) (a .0) well (u .row) (ready .1) .verdict
 
-    -- the rule memory rules on a step as the table does
-    step-rules : step (rules (translate t) u) room cs s ≡ step (evaluate t) room cs s
+    -- the rule memory rules on it as the table does
+    step-rules : step (rules ρ u) room cs s ≡ step (evaluate t) room cs s
     step-rules =
-        step-alike (rules (translate t) u) (evaluate t) room s
-        (λ c. rules-alike c (request room c s) (request-asks room s range c)) cs
+        step-alike (rules ρ u) (evaluate t) room s
+        (λ c. rules-alike c (request room c s) (request-asks room s (ready .0) c)) cs
 
-    -- what a step leaves in the rule memory
+    -- what it leaves in the rule memory
     abbrev Left : Outcome → Tag → Type 0
     Left (stopped x) w = Leaves t room cs x s (w .row)
     Left (stepped v) w = Fits t (w .row)
@@ -60,18 +62,18 @@ module _ (t : Table) (well : TableWritable t) (room : ℕ) (cs : List Command) w
     outcome-left (stepped v) w e h = h
 
     request-left : (c : Command) → CommandAt cs (s .pc .number) c → (q : Request) → request room c s ≡ q → Asks c s q
-        → Left (consult (evaluate t) c s q) (tagRequest (translate t) c s u q)
-    request-left c at (halt x) e a = rw a fits
+        → Left (consult (evaluate t) c s q) (askedBy ρ c s u q)
+    request-left c at (halt x) e a = rw a (ready .1)
     request-left c at (ask l1 l2 l3 k) e (m, roomy) = go (evaluate t key) refl
       where
         key : Key
         key = keyOf c s l1 l2 l3
 
         w : Tag
-        w = counted u (consulted (translate t) u key)
+        w = ρ u key .ruler
 
         row : w .row ≡ rowOf key (evaluate t key)
-        row = consult-table t key m well (u .row) fits .row
+        row = consult-table t key m well (u .row) (ready .1) .row
 
         go : (v : Verdict) → evaluate t key ≡ v → Left (decide v k) w
         go denied d = (c, at, rw e (d, row ∙ ap (rowOf key) d))
@@ -79,84 +81,39 @@ module _ (t : Table) (well : TableWritable t) (room : ℕ) (cs : List Command) w
             let is : w .row ≡ rowOf key (allowed p r) = row ∙ ap (rowOf key) d in
             outcome-left (k p r) w (roomy p r) (rw is (row-fits t key m p r d))
 
-    step-left : Left (step (evaluate t) room cs s) (tagStep (translate t) room cs s u)
+    step-left : Left (step (rules ρ u) room cs s) (asked ρ room cs s u)
     unfolding execute
     step-left =
-        step-both (translate t) (evaluate t) room s u Left fits cs
-        (λ c at. request-left c at (request room c s) refl (request-asks room s range c))
+        rw step-rules
+        (step-both ρ (evaluate t) room s u Left cs
+        (λ c at. request-left c at (request room c s) refl (request-asks room s (ready .0) c))
+        (λ out. ready .1))
 
-    -- a stopped step, and one that is carried out
-    stop-left : {x : Stop} → step (rules (translate t) u) room cs s ≡ stopped x
-        → (step (evaluate t) room cs s ≡ stopped x) × Leaves t room cs x s (tagStep (translate t) room cs s u .row)
-    stop-left e = let g = sym step-rules ∙ e in (g, rw g at step-left)
-
-    go-left : {v : State} → atEnd (length cs) (s .pc .number) ≡ false → step (rules (translate t) u) room cs s ≡ stepped v
-        → (step (evaluate t) room cs s ≡ stepped v) × LabelsInRange v × Fits t (tagStep (translate t) room cs s u .row)
-    go-left {v} d e =
-        let g = sym step-rules ∙ e in
-        (g, step-range (evaluate t) room cs (evaluate-range t) s v d g range, rw g at step-left)
+    step-ready : (v : State) → step (rules ρ u) room cs s ≡ stepped v → Ready v (asked ρ room cs s u)
+    step-ready v e =
+        let range = step-range (rules ρ u) (rules-range (translate t) u) room cs s (ready .0) in
+        (gives-stepped LabelsInRange e range, rw e at step-left)
 
   -- ══════════════════════════════════════════════════════════════════════════════════════════
   -- A run
   -- ══════════════════════════════════════════════════════════════════════════════════════════
 
-  -- the run, and what it leaves in the rule memory
-  abbrev Follows : ℕ → State → Tag → Result → Type 0
-  Follows fuel s u r =
-      LabelsInRange s → Fits t (u .row)
-      → (r .machine ≡ run (evaluate t) room cs fuel s) × Leaves t room cs (r .machine .stop) (r .machine .state) (r .tag .row)
-
-  run-spent : (s : State) → atEnd (length cs) (s .pc .number) ≡ false
-      → run (evaluate t) room cs 0 s ≡ record { stop = fuelSpent; state = s }
-  unfolding run
-  run-spent s e = rw e
-
-  tag-follows : (fuel : ℕ) (s : State) (u : Tag) → Follows fuel s u (tagRun (translate t) room cs fuel s u)
-  tag-follows =
-      tag-induction (translate t) room cs Follows
-      (λ fuel s u e range fits. (sym (run-end (evaluate t) room cs fuel s e), fits))
-      (λ s u e range fits. (sym (run-spent s e), fits))
-      (λ fuel s u x e g range fits.
-      let (d, left) = stop-left s u range fits g in
-      (sym (run-stopped (evaluate t) room cs fuel s x e d), left))
-      (λ fuel s v u r e g on range fits.
-      let (d, range′, fits′) = go-left s u range fits e g in
-      let (same, left) = on range′ fits′ in
-      (same ∙ sym (run-stepped (evaluate t) room cs fuel s v e d), left))
-
-  -- demand 2: from labels in range and an accepted row, lines, cells, stop, steps, place and stack are the machine's under the table
-  pub tag-run : (fuel : ℕ) (s : State) (u : Tag) → LabelsInRange s → Fits t (u .row)
-      → tagRun (translate t) room cs fuel s u .machine ≡ run (evaluate t) room cs fuel s
-  tag-run fuel s u range fits = tag-follows fuel s u range fits .0
+  alike : Alike ρ (fixed (evaluate t)) room cs (λ s u v. Ready s u)
+  alike =
+      record {
+        steps = λ s u v ready. step-rules s u ready;
+        stays = λ s w u v ready e. step-ready s u ready w (step-rules s u ready ∙ e);
+      }
 
   -- the rule memory at the stop
-  pub tag-row : (fuel : ℕ) (s : State) (u : Tag) → LabelsInRange s → Fits t (u .row)
-      → let r : Result = tagRun (translate t) room cs fuel s u in Leaves t room cs (r .machine .stop) (r .machine .state) (r .tag .row)
-  tag-row fuel s u range fits = tag-follows fuel s u range fits .1
-
-  -- the stack space, every word of it
-  pub tag-stack : (fuel : ℕ) (s : State) (u : Tag) (space : List ℤ) → LabelsInRange s → Fits t (u .row)
-      → tagStack (translate t) room cs fuel s u space ≡ stackAfter (evaluate t) room cs fuel s space
-  unfolding tagStack stackAfter
-  tag-stack zero s u space range fits = refl
-  tag-stack (suc fuel) s u space range fits =
-      unless (atEnd (length cs) (s .pc .number)) refl (step (rules (translate t) u) room cs s) refl (tag-stack fuel)
-    where
-      w : Tag
-      w = tagStep (translate t) room cs s u
-
-      unless : (b : Bool) → atEnd (length cs) (s .pc .number) ≡ b → (o : Outcome) → step (rules (translate t) u) room cs s ≡ o
-          → ((v : State) (u : Tag) (space : List ℤ) → LabelsInRange v → Fits t (u .row)
-          → tagStack (translate t) room cs fuel v u space ≡ stackAfter (evaluate t) room cs fuel v space)
-          → spaceUnless b space (spaceAfter o space (λ v. tagStack (translate t) room cs fuel v w (laid (stackWords (v .stack)) space)))
-          ≡ spaceUnless b space
-          (spaceAfter (step (evaluate t) room cs s) space
-          (λ v. stackAfter (evaluate t) room cs fuel v (laid (stackWords (v .stack)) space)))
-      unless true e o g on = refl
-      unless false e (stopped x) g on = let (d, left) = stop-left s u range fits g in rw d
-      unless false e (stepped v) g on =
-          let (d, range′, fits′) = go-left s u range fits e g in
-          rw d (on v w (laid (stackWords (v .stack)) space) range′ fits′)
+  run-leaves : (fuel : ℕ) (s : State) (u : Tag) → Ready s u
+      → let r : Result Tag = run ρ room cs fuel s u in Leaves t room cs (r .stop) (r .state) (r .ruler .row)
+  run-leaves =
+      run-induction ρ room cs (λ fuel s u r. Ready s u → Leaves t room cs (r .stop) (r .state) (r .ruler .row))
+      (λ fuel s u e ready. ready .1)
+      (λ s u e ready. ready .1)
+      (λ fuel s u x e g ready. rw g at (step-left s u ready))
+      (λ fuel s v u r e g on ready. on (step-ready s u ready v g))
 
 -- ════════════════════════════════════════════════════════════════════════════════════════════
 -- The claim
@@ -164,10 +121,11 @@ module _ (t : Table) (well : TableWritable t) (room : ℕ) (cs : List Command) w
 
 pub tag-agrees : (t : Table) → TableWritable t → Claim t (evaluate t)
 tag-agrees t well room cs fuel s u range fits =
+    let same = alike t well room cs in
     record {
-      machine = tag-run t well room cs fuel s u range fits;
-      stack = λ space. tag-stack t well room cs fuel s u space range fits;
-      row = tag-row t well room cs fuel s u range fits;
+      machine = run-alike _ _ room cs _ same fuel s u tt (range, fits);
+      stack = λ space. along-alike _ _ room cs _ same stackLaid fuel s u tt space (range, fits);
+      row = run-leaves t well room cs fuel s u (range, fits);
       counts = tag-counts (translate t) room cs fuel s u;
     }
 

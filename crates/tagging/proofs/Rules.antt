@@ -8,22 +8,24 @@ use native.Mathlib.Omega.{arith}
 use lib.IntN.{ℤ, pos, negsuc}
 use lib.ListN.{length}
 use borrow.Author.Tests.{eqb-true, eq-eqb}
+use Rattle.word.proofs.Bool.{never}
 use Rattle.program.specs.Command.{codeOf}
 use Rattle.machine.specs.Rule.{inputWord, Key, Verdict, denied, allowed}
-use Rattle.step.proofs.Link.Stack.{lowLabel-id}
+use Rattle.machine.specs.Holds.{WellMarked}
+use Rattle.machine.proofs.Asked.{marked-has}
+use Rattle.engine.proofs.Link.Stack.{lowLabel-id}
 use Rattle.policy.specs.Expression.{Table}
 use Rattle.policy.specs.Evaluate.{evaluate}
 use Rattle.policy.specs.Write.{TableWritable}
-use Rattle.policy.specs.Row.{acceptedRow, word, keyRow, WellMarked}
+use Rattle.policy.specs.Row.{acceptedRow, word, keyRow, faultRow}
 use Rattle.policy.proofs.Hits.{accepted-hit, hit-accepted}
 use Rattle.handler.specs.Kernel.{Result, handle}
 use Rattle.handler.specs.Translate.{translate}
-use Rattle.handler.specs.Row.{faultRow}
 use Rattle.handler.specs.Claim.{outcomeOf, rowOf, Handled}
 use Rattle.handler.proofs.Handler.{handler-run}
 use Rattle.tagging.specs.Consult.{fiveOf, sameWord, matches, ruled, again, faulted, consultIf, consult}
 use Rattle.tagging.specs.Claim.{Fits, Ruled}
-use Rattle.tagging.proofs.Asked.{marked-supplied, marked-has, evaluate-range}
+use Rattle.tagging.proofs.Ruled.{evaluate-range}
 
 -- ════════════════════════════════════════════════════════════════════════════════════════════
 -- The words of a row
@@ -50,8 +52,8 @@ words-all (suc n) (w ∷ ws) e = ap (λ (x : List ℤ). w ∷ x) (words-all n ws
 
 pub same-word : (a b : ℤ) → sameWord a b ≡ true → b ≡ a
 same-word (pos a) (pos b) e = ap pos (sym (eqb-true a b e))
-same-word (pos a) (negsuc b) e = absurd (let z : _≡_ {A = ℕ} 0 1 = cc in omega arith)
-same-word (negsuc a) (pos b) e = absurd (let z : _≡_ {A = ℕ} 0 1 = cc in omega arith)
+same-word (pos a) (negsuc b) e = never (cc)
+same-word (negsuc a) (pos b) e = never (cc)
 same-word (negsuc a) (negsuc b) e = ap negsuc (sym (eqb-true a b e))
 
 pub word-same : (a : ℤ) → sameWord a a ≡ true
@@ -60,7 +62,7 @@ word-same (negsuc a) = eq-eqb a a refl
 
 both-true : (a b : Bool) → (a && b) ≡ true → (a ≡ true) × (b ≡ true)
 both-true true b e = (refl, e)
-both-true false b e = absurd (let z : _≡_ {A = ℕ} 0 1 = cc in omega arith)
+both-true false b e = never (cc)
 
 five-same : {a b c d e a′ b′ c′ d′ e′ : ℤ} (rest : List ℤ) → a ≡ a′ → b ≡ b′ → c ≡ c′ → d ≡ d′ → e ≡ e′
     → a ∷ b ∷ c ∷ d ∷ e ∷ rest ≡ a′ ∷ b′ ∷ c′ ∷ d′ ∷ e′ ∷ rest
@@ -136,7 +138,7 @@ module _ (t : Table) (k : Key) (m : WellMarked k) where
       where
         handled : (x : Result) → handle (translate t) (faultRow k) ≡ x → Ruled t k ws (faulted (fiveOf k) x)
         handled x d =
-            let h : Handled t k x = rw d at (handler-run t k well (marked-supplied m) (marked-has m)) in
+            let h : Handled t k x = rw d at (handler-run t k well m) in
             record {
               verdict = rw (h .outcome, h .row) (again-is (evaluate t k) refl);
               row = h .row;

@@ -8,33 +8,25 @@ use mathlib.Core.List.{List}
 use lib.IntN.{ℤ}
 use lib.ListN.{length}
 use Rattle.program.specs.declared.Command.{Command}
-use Rattle.program.specs.Command.{opcode}
-use Rattle.machine.specs.Rule.{Key, denied, Policy}
-use Rattle.machine.specs.State.{State, Stop, end, fuelSpent, pcOutside, valueMissing, frameMissing}
-use Rattle.machine.specs.State.{addressOutside, denial, stackFull, outputFull}
-use Rattle.machine.specs.Step.{Request, halt, ask, request}
-use Rattle.machine.specs.Run.{run}
-use Rattle.machine.specs.Stopped.{Here}
+use Rattle.machine.specs.Rule.{Key, denied, Policy, fixed}
+use Rattle.machine.specs.State.{State, Stop}
+use Rattle.machine.specs.Step.{Request, halt, ask, request, keyOf}
+use Rattle.machine.specs.Run.{Result, run, Same}
+use Rattle.machine.specs.Stopped.{Here, denies}
 use Rattle.machine.specs.Holds.{LabelsInRange}
-use Rattle.step.specs.Layout.{stackAfter}
+use Rattle.engine.specs.Layout.{stackAfter}
 use Rattle.policy.specs.Expression.{Table}
 use Rattle.policy.specs.Evaluate.{evaluate}
-use Rattle.policy.specs.Row.{acceptedRow}
+use Rattle.policy.specs.Row.{acceptedRow, faultRow}
 use Rattle.handler.specs.Kernel.{handle}
 use Rattle.handler.specs.Translate.{translate}
-use Rattle.handler.specs.Row.{faultRow}
 use Rattle.handler.specs.Claim.{rowOf}
-use Rattle.tagging.specs.Consult.{Tag, fiveOf, Consulted, matches}
-use Rattle.tagging.specs.Run.{Result, tagRun, tagStack}
+use Rattle.tagging.specs.Consult.{Tag, fiveOf, Consulted, matches, tagRuler}
 
 -- a rule memory of seven words that check 7 accepts
 pub record Fits (t : Table) (ws : List ℤ) : Type 0 where
   pub size : length ws ≡ 7
   pub accepted : acceptedRow t ws ≡ true
-
--- ════════════════════════════════════════════════════════════════════════════════════════════
--- Consulting
--- ════════════════════════════════════════════════════════════════════════════════════════════
 
 -- where the five words match the row is used as it is; otherwise there is one fault, with the handler's kernel steps
 abbrev pub Counts : Table → Key → List ℤ → Consulted → (matching : Bool) → Type 0
@@ -50,27 +42,10 @@ pub record Ruled (t : Table) (k : Key) (ws : List ℤ) (c : Consulted) : Type 0 
   pub row : c .row ≡ rowOf k (evaluate t k)
   pub counts : Counts t k ws c (matches (fiveOf k) ws)
 
--- ════════════════════════════════════════════════════════════════════════════════════════════
--- A run
--- ════════════════════════════════════════════════════════════════════════════════════════════
-
 -- the table does not allow what is asked, and the row is what the fault wrote
 abbrev pub Faulted : Table → Command → State → List ℤ → Request → Type 0
 Faulted t c s ws (halt x) = ⊥
-Faulted t c s ws (ask l1 l2 l3 k) =
-    let key : Key = record { opcode = opcode c; pc = s .pc .label; input1 = l1; input2 = l2; input3 = l3 } in
-    (evaluate t key ≡ denied) × (ws ≡ faultRow key)
-
-abbrev pub denies : Stop → Bool
-denies end = false
-denies fuelSpent = false
-denies pcOutside = false
-denies valueMissing = false
-denies frameMissing = false
-denies addressOutside = false
-denies denial = true
-denies stackFull = false
-denies outputFull = false
+Faulted t c s ws (ask l1 l2 l3 k) = (evaluate t (keyOf c s l1 l2 l3) ≡ denied) × (ws ≡ faultRow (keyOf c s l1 l2 l3))
 
 module _ (t : Table) (room : ℕ) (cs : List Command) where
   -- the row that a run leaves: stop 6 leaves the −1 pair of the command at the place, every other stop an accepted row
@@ -83,24 +58,20 @@ module _ (t : Table) (room : ℕ) (cs : List Command) where
 
 -- the counts of a run from s: of its commands, one a step and the one that is stopped, some did not match, and each of these took at
 -- most `limit` kernel steps
-pub record Adds (limit : ℕ) (s : State) (u : Tag) (r : Result) : Type 0 where
+pub record Adds (limit : ℕ) (s : State) (u : Tag) (r : Result Tag) : Type 0 where
   pub more : ℕ
-  pub faults : r .tag .faults ≡ u .faults + more
-  pub most : more + s .steps ≤ r .machine .state .steps + 1
-  pub kernelSteps : r .tag .kernelSteps ≤ u .kernelSteps + more * limit
-
--- ════════════════════════════════════════════════════════════════════════════════════════════
--- Demand 2
--- ════════════════════════════════════════════════════════════════════════════════════════════
+  pub faults : r .ruler .faults ≡ u .faults + more
+  pub most : more + s .steps ≤ r .state .steps + 1
+  pub kernelSteps : r .ruler .kernelSteps ≤ u .kernelSteps + more * limit
 
 -- with the handler of t, the run is the machine's under the policy π: lines, cells, stop, steps, place and stack, and every word of
 -- the stack space
 pub record Agrees (t : Table) (π : Policy) (room : ℕ) (cs : List Command) (fuel : ℕ) (s : State) (u : Tag) : Type 0 where
-  pub machine : tagRun (translate t) room cs fuel s u .machine ≡ run π room cs fuel s
-  pub stack : (space : List ℤ) → tagStack (translate t) room cs fuel s u space ≡ stackAfter π room cs fuel s space
+  pub machine : Same (run (tagRuler (translate t)) room cs fuel s u) (run (fixed π) room cs fuel s tt)
+  pub stack : (space : List ℤ) → stackAfter (tagRuler (translate t)) room cs fuel s u space ≡ stackAfter (fixed π) room cs fuel s tt space
   pub row :
-      let r : Result = tagRun (translate t) room cs fuel s u in Leaves t room cs (r .machine .stop) (r .machine .state) (r .tag .row)
-  pub counts : Adds (length (translate t)) s u (tagRun (translate t) room cs fuel s u)
+      let r : Result Tag = run (tagRuler (translate t)) room cs fuel s u in Leaves t room cs (r .stop) (r .state) (r .ruler .row)
+  pub counts : Adds (length (translate t)) s u (run (tagRuler (translate t)) room cs fuel s u)
 
 -- from every state with labels in range and every accepted rule memory
 abbrev pub Claim : Table → Policy → Type 0

@@ -6,9 +6,9 @@ use lib.IntN.{ℤ, pos, negsuc}
 use lib.Dec.{eqb}
 use Rattle.label.specs.Word.{lowLabel}
 use Rattle.program.specs.Command.{codeOf}
-use Rattle.machine.specs.Rule.{Key, inputWord, Verdict, denied, allowed}
+use Rattle.machine.specs.Rule.{Key, inputWord, Verdict, denied, allowed, Ruler}
 use Rattle.policy.specs.Row.{word}
-use Rattle.handler.specs.Kernel.{Outcome, returned, failed, Result}
+use Rattle.handler.specs.Kernel.{Instruction, Outcome, returned, failed, Result, handle}
 use Rattle.handler.specs.Kernel as Kernel
 
 -- what the tag engine has beside the machine's state: the rule memory, the commands that did not match, the kernel steps
@@ -87,3 +87,9 @@ consult handler f ws = consultIf (matches f ws) handler f ws
 -- the counts go on
 abbrev pub counted : Tag → Consulted → Tag
 counted t c = tag (c .row) (t .faults + c .faults) (t .kernelSteps + c .kernelSteps)
+
+-- the tag engine's ruler, with a handler: it keeps the rule memory and the counts
+abbrev pub tagRuler : List Instruction → Ruler Tag
+tagRuler handler u k =
+    let c : Consulted = consult (handle handler) (fiveOf k) (u .row) in
+    record { verdict = c .verdict; ruler = counted u c }

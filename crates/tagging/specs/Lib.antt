@@ -1,3 +1,2 @@
 pub mod Consult
-pub mod Run
 pub mod Claim

@@ -31,13 +31,11 @@ emits-run : (p : Piece) (code : List Instruction) (next start : ℕ) (before aft
 emits-run p code next start before after e d = rw e (record { next = refl; position = refl; space = d })
 
 pub emits-zero : (p : Piece) (next start : ℕ) (before after : List ℤ) → p ≡ piece (Push (pos 0) ∷ []) next
-    → after ≡ putAll (2 * start) (pos 5 ∷ pos 0 ∷ []) before → Emits p start before (mark next (start + 1)) after
-unfolding kernelWords
+    → after ≡ putCode start (Push (pos 0) ∷ []) before → Emits p start before (mark next (start + 1)) after
 emits-zero p next start before after e d = emits-run p (Push (pos 0) ∷ []) next start before after e d
 
 pub emits-read : (p : Piece) (address next start : ℕ) (before after : List ℤ) → p ≡ piece (Push (pos address) ∷ Load ∷ []) next
-    → after ≡ putAll (2 * start) (pos 5 ∷ pos address ∷ pos 6 ∷ pos 0 ∷ []) before → Emits p start before (mark next (start + 2)) after
-unfolding kernelWords
+    → after ≡ putCode start (Push (pos address) ∷ Load ∷ []) before → Emits p start before (mark next (start + 2)) after
 emits-read p address next start before after e d = emits-run p (Push (pos address) ∷ Load ∷ []) next start before after e d
 
 module _ {a : Piece} {start : ℕ} {s0 : List ℤ} {r1 : Mark} {s1 : List ℤ} (e1 : Emits a start s0 r1 s1) where
@@ -87,23 +85,20 @@ module _ (inner : ℕ → Piece) (n start : ℕ) (s0 : List ℤ) where
           → Emits (piece (inner n .code ++ second .code ++ code) (second .next)) start s0 (mark (r2 .next) (r2 .position + length code)) s3
       emits-tail code s3 e3 = rw (emits-two .next) (emits-put emits-two code (second .next) e3)
 
-      pub emits-join : (s3 : List ℤ) → s3 ≡ putAll (2 * r2 .position) (pos 0x0c ∷ pos 0 ∷ []) s2
+      pub emits-join : (s3 : List ℤ) → s3 ≡ putCode (r2 .position) (Or ∷ []) s2
           → Emits (twoPieces joinCode inner n) start s0 (mark (r2 .next) (r2 .position + 1)) s3
-      unfolding kernelWords
       emits-join s3 e3 = emits-tail (Or ∷ []) s3 e3
 
       -- the stores of a rule's answer
       pub emits-answer : (s3 : List ℤ)
-          → s3 ≡ putAll (2 * r2 .position) (pos 5 ∷ pos 6 ∷ pos 7 ∷ pos 0 ∷ pos 5 ∷ pos 5 ∷ pos 7 ∷ pos 0 ∷ pos 0x0b ∷ pos 0 ∷ []) s2
+          → s3 ≡ putCode (r2 .position) (Push (pos 6) ∷ Store ∷ Push (pos 5) ∷ Store ∷ Ret ∷ []) s2
           → Emits (twoPieces answerOf inner n) start s0 (mark (r2 .next) (r2 .position + 5)) s3
-      unfolding kernelWords
       emits-answer s3 e3 = emits-tail (Push (pos 6) ∷ Store ∷ Push (pos 5) ∷ Store ∷ Ret ∷ []) s3 e3
 
     -- the branch over the second is stored behind it
     pub emits-either : (r2 : Mark) (s2 : List ℤ) → Emits (inner (r1 .next)) (r1 .position + 4) s1 r2 s2 → (s3 : List ℤ)
-        → s3 ≡ putAll (2 * r1 .position) (pos 9 ∷ pos 4 ∷ pos 5 ∷ pos 0 ∷ pos 5 ∷ pos 1 ∷ pos 9 ∷ pos (r2 .position - r1 .position - 3) ∷ []) s2
+        → s3 ≡ putCode (r1 .position) (Bnz (pos 4) ∷ Push (pos 0) ∷ Push (pos 1) ∷ Bnz (pos (r2 .position - r1 .position - 3)) ∷ []) s2
         → Emits (twoPieces eitherCode inner n) start s0 r2 s3
-    unfolding kernelWords
     emits-either r2 s2 e2 s3 e3 =
         let f : Emits second (r1 .position + 4) s1 r2 s2 = subst (λ k. Emits (inner k) (r1 .position + 4) s1 r2 s2) (e1 .next) e2 in
         let d : r2 .position - r1 .position - 3 ≡ suc (length (second .code)) = omega (arith, f .position) in
@@ -111,11 +106,10 @@ module _ (inner : ℕ → Piece) (n start : ℕ) (s0 : List ℤ) where
 
   -- the second comes first
   pub emits-flows : (k : ℕ) → k ≡ inner n .next → (r1 : Mark) (s1 : List ℤ) → Emits (inner k) start s0 r1 s1
-      → (s2 : List ℤ) → s2 ≡ putAll (2 * r1 .position) (pos 0x0d ∷ pos 0 ∷ []) s1
+      → (s2 : List ℤ) → s2 ≡ putCode (r1 .position) (Dup ∷ []) s1
       → (r2 : Mark) (s3 : List ℤ) → Emits (inner n) (r1 .position + 1) s2 r2 s3
-      → (s4 : List ℤ) → s4 ≡ putAll (2 * r2 .position) (pos 0x0c ∷ pos 0 ∷ pos 2 ∷ pos 0 ∷ []) s3
+      → (s4 : List ℤ) → s4 ≡ putCode (r2 .position) (Or ∷ Sub ∷ []) s3
       → Emits (twoPieces flowsCode inner n) start s0 (mark (r1 .next) (r2 .position + 2)) s4
-  unfolding kernelWords
   emits-flows k e r1 s1 e1 s2 d r2 s3 e2 s4 d2 =
       let f : Emits second start s0 r1 s1 = subst (λ j. Emits (inner j) start s0 r1 s1) e e1 in
       let g = emits-put (emits-then (emits-put f (Dup ∷ []) (r1 .next) d) (inner n) e2) (Or ∷ Sub ∷ []) (second .next) d2 in
@@ -127,10 +121,9 @@ module _ (inner : ℕ → Piece) (n start : ℕ) (s0 : List ℤ) where
 
 pub emits-guarded : (c : Piece) (answer : ℕ → Piece) (start : ℕ) (s0 : List ℤ) (r1 : Mark) (s1 : List ℤ) → Emits c start s0 r1 s1
     → (r2 : Mark) (s2 : List ℤ) → Emits (answer (r1 .next)) (r1 .position + 1) s1 r2 s2
-    → (s3 : List ℤ) → s3 ≡ putAll (2 * r1 .position) (pos 9 ∷ pos (r2 .position - r1 .position) ∷ []) s2
-    → (s4 : List ℤ) → s4 ≡ putAll (2 * r2 .position) (pos 5 ∷ negsuc 0 ∷ pos 8 ∷ pos 0 ∷ []) s3
+    → (s3 : List ℤ) → s3 ≡ putCode (r1 .position) (Bnz (pos (r2 .position - r1 .position)) ∷ []) s2
+    → (s4 : List ℤ) → s4 ≡ putCode (r2 .position) (Push (negsuc 0) ∷ Jump ∷ []) s3
     → Emits (piece (guardedOf (c .code) (answer (c .next) .code)) (answer (c .next) .next)) start s0 (mark (r2 .next) (r2 .position + 2)) s4
-unfolding kernelWords
 emits-guarded c answer start s0 r1 s1 e1 r2 s2 e2 s3 e3 s4 e4 =
     let a = answer (c .next) in
     let f : Emits a (r1 .position + 1) s1 r2 s2 = subst (λ k. Emits (answer k) (r1 .position + 1) s1 r2 s2) (e1 .next) e2 in

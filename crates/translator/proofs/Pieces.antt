@@ -5,12 +5,12 @@ use mathlib.Core.List.{List, []}
 use Prim.Native.Nat.{ℕ, zero, suc, _+_, _-_, _*_, _^_, _<_, _≤_}
 use native.Mathlib.Omega.{arith}
 use lib.ListN.{length, getD, length-append}
-use Rattle.policy.specs.declared.expression.Token.{Token}
-use Rattle.policy.specs.declared.expression.Token.the-variants as Token
-use Rattle.policy.specs.declared.expression.Test.{Test}
-use Rattle.policy.specs.declared.expression.Test.the-variants as Test
+use Rattle.policy.specs.declared.Token.{Token}
+use Rattle.policy.specs.declared.Token.the-variants as Token
+use Rattle.tables.specs.declared.expression.Test.{Test}
+use Rattle.tables.specs.declared.expression.Test.the-variants as Test
 use Rattle.policy.specs.Token.{tokenOf, tokenAt}
-use Rattle.policy.specs.Value.{testOf}
+use Rattle.tables.specs.Value.{testOf}
 use Rattle.policy.specs.Read.{depthLimit}
 use Rattle.policy.proofs.Tokens.{tokenAt-byte, tokenAt-missing}
 use Rattle.translator.specs.declared.Part.{Part}

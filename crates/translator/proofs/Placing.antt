@@ -8,6 +8,7 @@ use native.Mathlib.Omega.{arith}
 use lib.IntN.{ℤ, pos}
 use lib.ListN.{length, length-append}
 use Rattle.translator.specs.declared.Mark.{Mark}
+use Rattle.policy.specs.Read.{ruleCount}
 use Rattle.handler.specs.Kernel.{Instruction, Bnz}
 use Rattle.handler.specs.Space.{kernelWords}
 use Rattle.handler.specs.Translate.{concat, slots, dispatch}
@@ -32,8 +33,8 @@ concat-length (suc count) s at =
 pub table-length : (s : List ℕ) → length (tableCode s) ≤ 2 ^ 16
 unfolding tableCode
 table-length s =
-    let bs = bodiesAt 11 s 0 in
-    simp length-append (omega (arith, slots-length bs 0, bodies-length 11 s 0, concat-length 11 s 0))
+    let bs = bodiesAt ruleCount s 0 in
+    simp length-append (omega (arith, slots-length bs 0, bodies-length ruleCount s 0, concat-length ruleCount s 0))
 
 -- the place after the bodies
 placedEnd-length : (count : ℕ) (s : List ℕ) (m : Mark) → placedEnd count s m ≡ m .position + length (concat (bodiesAt count s (m .next)))
@@ -71,28 +72,28 @@ placed-apart (suc count) slot before s m space h =
     ∙ ap (λ k. putCode (6 + slot) (Bnz (pos k) ∷ rest) space) d)
 
 abbrev pub start : Mark
-start = record { next = 0; position = 17 }
+start = record { next = 0; position = 6 + ruleCount }
 
 module _ (s : List ℕ) (space : List ℤ) where
   abbrev bodies : List (List Instruction)
-  bodies = bodiesAt 11 s 0
+  bodies = bodiesAt ruleCount s 0
 
-  pub placed-table : placed 11 0 s start (putCode 0 dispatch space) ≡ putCode 0 (tableCode s) space
+  pub placed-table : placed ruleCount 0 s start (putCode 0 dispatch space) ≡ putCode 0 (tableCode s) space
   unfolding tableCode
   placed-table =
       let l = length-append dispatch (slots 0 bodies) in
-      let n : 0 + length (dispatch ++ slots 0 bodies) ≡ 17 = omega (arith, slots-length bodies 0, bodies-length 11 s 0) in
-      placed-apart 11 0 0 s start (putCode 0 dispatch space) refl
-      ∙ ap (putCode 17 (concat bodies)) (sym (putCode-append 0 dispatch (slots 0 bodies) space))
+      let n : 0 + length (dispatch ++ slots 0 bodies) ≡ 6 + ruleCount = omega (arith, slots-length bodies 0, bodies-length ruleCount s 0) in
+      placed-apart ruleCount 0 0 s start (putCode 0 dispatch space) refl
+      ∙ ap (putCode (6 + ruleCount) (concat bodies)) (sym (putCode-append 0 dispatch (slots 0 bodies) space))
       ∙ ap (λ k. putCode k (concat bodies) (putCode 0 (dispatch ++ slots 0 bodies) space)) (sym n)
       ∙ sym (putCode-append 0 (dispatch ++ slots 0 bodies) (concat bodies) space)
 
-pub placedEnd-table : (s : List ℕ) → placedEnd 11 s start ≡ length (tableCode s)
+pub placedEnd-table : (s : List ℕ) → placedEnd ruleCount s start ≡ length (tableCode s)
 unfolding tableCode
 placedEnd-table s =
-    let bs = bodiesAt 11 s 0 in
-    placedEnd-length 11 s start
-    ∙ sym (simp length-append (omega (arith, slots-length bs 0, bodies-length 11 s 0)))
+    let bs = bodiesAt ruleCount s 0 in
+    placedEnd-length ruleCount s start
+    ∙ sym (simp length-append (omega (arith, slots-length bs 0, bodies-length ruleCount s 0)))
 
 -- ════════════════════════════════════════════════════════════════════════════════════════════
 -- Rule by rule
@@ -100,25 +101,25 @@ placedEnd-table s =
 
 -- i rules are stored behind the dispatch, and storing the others makes the whole
 pub record Placing (s : List ℕ) (before : List ℤ) (i : ℕ) (m : Mark) (now : List ℤ) : Type 0 where
-  pub few : i ≤ 11
-  pub after : 17 ≤ m .position
-  pub room : m .position ≤ 17 + 4096 * i
+  pub few : i ≤ ruleCount
+  pub after : 6 + ruleCount ≤ m .position
+  pub room : m .position ≤ 6 + ruleCount + 4096 * i
   pub size : length now ≡ length before
-  pub end : placedEnd (11 - i) s m ≡ placedEnd 11 s start
-  pub left : placed (11 - i) i s m now ≡ placed 11 0 s start before
+  pub end : placedEnd (ruleCount - i) s m ≡ placedEnd ruleCount s start
+  pub left : placed (ruleCount - i) i s m now ≡ placed ruleCount 0 s start before
 
 module _ (s : List ℕ) (before : List ℤ) where
   pub placing-start : Placing s before 0 start before
   placing-start = record { few = omega arith; after = omega arith; room = omega arith; size = refl; end = refl; left = refl }
 
   module _ (i : ℕ) (m : Mark) (now : List ℤ) (p : Placing s before i m now) where
-    pub placing-next : i < 11 → (s1 : List ℤ) → s1 ≡ putAll (2 * (6 + i)) (pos 9 ∷ pos (m .position - (6 + i)) ∷ []) now
+    pub placing-next : i < ruleCount → (s1 : List ℤ) → s1 ≡ putCode (6 + i) (Bnz (pos (m .position - (6 + i))) ∷ []) now
         → (r : Mark) (s2 : List ℤ) → Emits (ruleCode s (m .next)) (m .position) s1 r s2 → length s2 ≡ length now
         → Placing s before (i + 1) r s2
-    unfolding placed placedEnd kernelWords
+    unfolding placed placedEnd
     placing-next h s1 d r s2 e l =
         let q = ruleCode s (m .next) in
-        let n : 11 - i ≡ suc (11 - (i + 1)) = omega arith in
+        let n : ruleCount - i ≡ suc (ruleCount - (i + 1)) = omega arith in
         let k : r ≡ record { next = q .next; position = m .position + length (q .code) } =
         ap (λ a. record { next = a; position = r .position }) (e .next) ∙ ap (λ a. record { next = q .next; position = a }) (e .position) in
         record {
@@ -126,23 +127,21 @@ module _ (s : List ℕ) (before : List ℤ) where
           after = omega (arith, p .after, e .position);
           room = omega (arith, p .room, e .position, rule-length s (m .next));
           size = l ∙ p .size;
-          end = ap (placedEnd (11 - (i + 1)) s) k ∙ (rw n at (p .end));
+          end = ap (placedEnd (ruleCount - (i + 1)) s) k ∙ (rw n at (p .end));
           left =
-              ap (λ a. placed (11 - (i + 1)) (i + 1) s a s2) k
-              ∙ ap (placed (11 - (i + 1)) (i + 1) s _) (e .space ∙ ap (putCode (m .position) (q .code)) d)
+              ap (λ a. placed (ruleCount - (i + 1)) (i + 1) s a s2) k
+              ∙ ap (placed (ruleCount - (i + 1)) (i + 1) s _) (e .space ∙ ap (putCode (m .position) (q .code)) d)
               ∙ (rw n at (p .left));
         }
 
-    module _ (h : 11 ≤ i) where
-      last : i ≡ 11
+    module _ (h : ruleCount ≤ i) where
+      last : i ≡ ruleCount
       last = omega (arith, p .few)
 
       pub placing-count : m .position ≡ length (tableCode s)
       unfolding placedEnd
       placing-count = (rw last at (p .end)) ∙ placedEnd-table s
 
-      pub placing-written : (space : List ℤ)
-          → before ≡ putAll 0 (pos 5 ∷ pos 0 ∷ pos 6 ∷ pos 0 ∷ pos 0x0d ∷ pos 0 ∷ pos 5 ∷ pos 5 ∷ pos 1 ∷ pos 0 ∷ pos 8 ∷ pos 0 ∷ []) space
-          → now ≡ putCode 0 (tableCode s) space
-      unfolding placed kernelWords
-      placing-written space e = (rw last at (p .left)) ∙ ap (placed 11 0 s start) e ∙ placed-table s space
+      pub placing-written : (space : List ℤ) → before ≡ putCode 0 dispatch space → now ≡ putCode 0 (tableCode s) space
+      unfolding placed
+      placing-written space e = (rw last at (p .left)) ∙ ap (placed ruleCount 0 s start) e ∙ placed-table s space

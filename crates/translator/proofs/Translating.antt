@@ -4,32 +4,34 @@ use mathlib.Core.Path.{_≡_, refl, sym, ap, subst, _∙_}
 use mathlib.Core.Bool.{Bool, true, false}
 use mathlib.Core.List.{List, [], _∷_, _++_, map}
 use mathlib.Core.Option.{Option, none, some}
-use Prim.Native.Nat.{ℕ, zero, suc, _+_, _*_, _<_, _≤_}
+use Prim.Native.Nat.{ℕ, zero, suc, _+_, _*_, _≤_}
 use native.Mathlib.Omega.{arith}
 use lib.IntN.{ℤ}
 use lib.Dec.{leb, ltb, eqb}
 use lib.ListN.{length, getElem?}
-use borrow.Author.Tests.{eqb-true, le-leb, lt-leb}
-use Rattle.program.specs.Command.{Opcode, opcodes}
+use borrow.Author.Tests.{eqb-true}
+use Rattle.word.specs.Lay.{laid}
+use Rattle.program.specs.Command.{Opcode, opcodes, supplies, hasResult}
 use Rattle.program.specs.declared.Refusal.{Refusal}
-use Rattle.policy.specs.declared.Checked.the-variants as Checked
-use Rattle.policy.specs.declared.expression.Token.{Token}
-use Rattle.policy.specs.declared.expression.Token.the-variants as Token
+use Rattle.tables.specs.declared.Checked.the-variants as Checked
+use Rattle.policy.specs.declared.Token.{Token}
+use Rattle.policy.specs.declared.Token.the-variants as Token
 use Rattle.policy.specs.Expression.{LabelExpr, empty, input1, input2, input3, join, Condition, flows, always, both, either, Rule, Table}
 use Rattle.policy.specs.Token.{tokenOf, tokenAt}
-use Rattle.policy.specs.Value.{testOf}
-use Rattle.policy.specs.Ask.{checkAnswer}
+use Rattle.tables.specs.Value.{testOf}
+use Rattle.tables.specs.Ask.{checkAnswer}
 use Rattle.policy.specs.Read.{Read, fault, found, andThen, readTwo, readIf, labelFrom, readLabel, conditionFrom, readCondition, depthLimit}
-use Rattle.policy.specs.Read.{supplies, hasResult, emptyByte, resultIf, readRuleWith, readRule, prepend, readRules}
+use Rattle.policy.specs.Read.{emptyByte, resultIf, readRuleWith, readRule, ruleCount, prepend, readRules}
 use Rattle.policy.specs.Read.{ReadTable, refused, table, wholeIf, whole, tableLimit, tableIf, readTable}
-use Rattle.translator.specs.declared.Translated.the-variants as Translated
+use Rattle.translator.specs.declared.Measured.the-variants as Measured
 use Rattle.handler.specs.Kernel.{Instruction}
+use Rattle.handler.specs.Space.{kernelWords}
 use Rattle.handler.specs.Translate.{compileLabel, compileCondition, compileAnswer, compileIf, guarded, compileRule}
 use Rattle.handler.specs.Translate.{slots, concat, dispatch, translate}
 use Rattle.translator.specs.Emit.{Piece, piece, joinCode, flowsCode, eitherCode, partOf, labelPiece, labelCode}
 use Rattle.translator.specs.Emit.{conditionPiece, conditionCode, answerOf, answerCode, guardedOf, guardedCode, rulePiece, ruleCode}
 use Rattle.translator.specs.Emit.{bodiesAt, tableCode, putCode}
-use Rattle.translator.specs.Translated.{handlerCount, laidIf, translateOf}
+use Rattle.translator.specs.Measure.{handlerCount, measureOf}
 use Rattle.translator.proofs.Putting.{putCode-laid}
 
 -- a piece is the translation of what was found, with the offset after it
@@ -230,11 +232,11 @@ module _ (s : List ℕ) where
   unfolding readTable tableCode translate
   table-translates = limit (leb (length s) tableLimit)
     where
-      over : (b : Bool) (t : Table) (end : ℕ) → AreRules (found t end) (bodiesAt 11 s 0) → Translates (wholeIf b t end) (tableCode s)
+      over : (b : Bool) (t : Table) (end : ℕ) → AreRules (found t end) (bodiesAt ruleCount s 0) → Translates (wholeIf b t end) (tableCode s)
       over true t end e = tt
       over false t end e = ap (λ (bs : List (List Instruction)). dispatch ++ slots 0 bs ++ concat bs) e
 
-      rules : (x : Read Table) → AreRules x (bodiesAt 11 s 0) → Translates (whole (length s) x) (tableCode s)
+      rules : (x : Read Table) → AreRules x (bodiesAt ruleCount s 0) → Translates (whole (length s) x) (tableCode s)
       rules (fault p) e = tt
       rules (found t end) e = over (ltb end (length s)) t end e
 
@@ -242,38 +244,32 @@ module _ (s : List ℕ) where
       limit true = rules (readRules opcodes s 0) (rules-are opcodes 0)
       limit false = tt
 
+-- of bytes that are a table whose handler fits, what is stored is the handler
+pub written-table : (s : List ℕ) (t : Table) (space : List ℤ) → readTable s ≡ table t → 2 * length (translate t) ≤ length space
+    → putCode 0 (tableCode s) space ≡ laid (kernelWords (translate t)) space
+written-table s t space e h =
+    let d : tableCode s ≡ translate t = subst (λ x. Translates x (tableCode s)) e (table-translates s) in
+    ap (λ code. putCode 0 code space) d ∙ putCode-laid (translate t) space h
+
 -- ════════════════════════════════════════════════════════════════════════════════════════════
 -- The answers
 -- ════════════════════════════════════════════════════════════════════════════════════════════
 
-pub refused-count : (x : ReadTable) (r : Refusal) → checkAnswer x ≡ Checked.Refused r → 0 ≡ handlerCount x
+-- of a measuring, by the check's
+pub refused-measured : (x : ReadTable) (r : Refusal) → checkAnswer x ≡ Checked.Refused r → Measured.Refused r ≡ measureOf x
+refused-measured (refused q) r e = let d : r ≡ q = cc in ap Measured.Refused d
+refused-measured (table t) r e = absurd (let z : _≡_ {A = ℕ} 0 1 = cc in omega arith)
+
+pub accepted-measured : (code : List Instruction) (x : ReadTable) → Translates x code → checkAnswer x ≡ Checked.Accepted
+    → Measured.Instructions (length code) ≡ measureOf x
+accepted-measured code (refused q) h e = absurd (let z : _≡_ {A = ℕ} 0 1 = cc in omega arith)
+accepted-measured code (table t) h e = ap (λ c. Measured.Instructions (length c)) h
+
+-- of a count, by what was measured
+pub refused-count : (x : ReadTable) (r : Refusal) → measureOf x ≡ Measured.Refused r → 0 ≡ handlerCount x
 refused-count (refused q) r e = refl
 refused-count (table t) r e = absurd (let z : _≡_ {A = ℕ} 0 1 = cc in omega arith)
 
-pub refused-translation : (x : ReadTable) (r : Refusal) (space : List ℤ) → checkAnswer x ≡ Checked.Refused r
-    → record { answer = Translated.Refused r; space = space } ≡ translateOf x space
-refused-translation (refused q) r space e = let d : r ≡ q = cc in rw d
-refused-translation (table t) r space e = absurd (let z : _≡_ {A = ℕ} 0 1 = cc in omega arith)
-
-module _ (code : List Instruction) where
-  pub accepted-count : (x : ReadTable) → Translates x code → checkAnswer x ≡ Checked.Accepted → length code ≡ handlerCount x
-  accepted-count (refused q) h e = absurd (let z : _≡_ {A = ℕ} 0 1 = cc in omega arith)
-  accepted-count (table t) h e = ap length h
-
-  accepted-translation : (x : ReadTable) (space : List ℤ) → Translates x code → checkAnswer x ≡ Checked.Accepted
-      → laidIf (leb (2 * length code) (length space)) code space ≡ translateOf x space
-  accepted-translation (refused q) space h e = absurd (let z : _≡_ {A = ℕ} 0 1 = cc in omega arith)
-  accepted-translation (table t) space h e = ap (λ c. laidIf (leb (2 * length c) (length space)) c space) h
-
-  module _ (x : ReadTable) (space : List ℤ) (h : Translates x code) (e : checkAnswer x ≡ Checked.Accepted) where
-    pub short-translation : length space < 2 * length code
-        → record { answer = Translated.Short (length code); space = space } ≡ translateOf x space
-    short-translation l =
-        ap (λ b. laidIf b code space) (sym (lt-leb (2 * length code) (length space) l)) ∙ accepted-translation x space h e
-
-    pub written-translation : 2 * length code ≤ length space → (after : List ℤ) → after ≡ putCode 0 code space
-        → record { answer = Translated.Written (length code); space = after } ≡ translateOf x space
-    written-translation l after d =
-        ap (λ (w : List ℤ). record { answer = Translated.Written (length code); space = w }) (d ∙ putCode-laid code space l)
-        ∙ ap (λ b. laidIf b code space) (sym (le-leb (2 * length code) (length space) l))
-        ∙ accepted-translation x space h e
+pub measured-count : (x : ReadTable) (n : ℕ) → measureOf x ≡ Measured.Instructions n → n ≡ handlerCount x
+measured-count (refused q) n e = absurd (let z : _≡_ {A = ℕ} 0 1 = cc in omega arith)
+measured-count (table t) n e = cc

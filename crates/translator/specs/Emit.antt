@@ -5,13 +5,13 @@ use mathlib.Core.Path.{_≡_}
 use mathlib.Core.List.{List, [], _∷_, _++_}
 use lib.IntN.{ℤ, pos, negsuc}
 use lib.ListN.{length, set}
-use Rattle.policy.specs.declared.expression.Token.{Token}
-use Rattle.policy.specs.declared.expression.Token.the-variants as Token
-use Rattle.policy.specs.declared.expression.Test.{Test}
-use Rattle.policy.specs.declared.expression.Test.the-variants as Test
+use Rattle.policy.specs.declared.Token.{Token}
+use Rattle.policy.specs.declared.Token.the-variants as Token
+use Rattle.tables.specs.declared.expression.Test.{Test}
+use Rattle.tables.specs.declared.expression.Test.the-variants as Test
 use Rattle.policy.specs.Token.{tokenAt}
-use Rattle.policy.specs.Value.{testOf}
-use Rattle.policy.specs.Read.{depthLimit}
+use Rattle.tables.specs.Value.{testOf}
+use Rattle.policy.specs.Read.{depthLimit, ruleCount}
 use Rattle.translator.specs.declared.Part.{Part}
 use Rattle.translator.specs.declared.Part.the-variants as Part
 use Rattle.translator.specs.declared.Mark.{Mark}
@@ -114,7 +114,7 @@ bodiesAt zero bytes at = []
 bodiesAt (suc count) bytes at = let r = ruleCode bytes at in r .code ∷ bodiesAt count bytes (r .next)
 
 unfoldable pub tableCode : List ℕ → List Instruction
-tableCode bytes = let bodies = bodiesAt 11 bytes 0 in dispatch ++ slots 0 bodies ++ concat bodies
+tableCode bytes = let bodies = bodiesAt ruleCount bytes 0 in dispatch ++ slots 0 bodies ++ concat bodies
 
 -- ════════════════════════════════════════════════════════════════════════════════════════════
 -- Storing them

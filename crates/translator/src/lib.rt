@@ -1,25 +1,51 @@
-// The translator: from a rule table's bytes into the handler space. Read specs/Translated.antt first; Emit says what the code stores.
+// The translator: from a rule table's bytes into the handler space. Read specs/Measure.antt first; Emit says what the code stores.
 ghost use mathlib.Core.Path.{_≡_};
 ghost use Prim.Native.Nat.{_+_, _*_, _≤_, _^_};
 ghost use lib.ListN.{length};
 ghost use Rattle.policy.specs.Read.{readTable};
 ghost use Rattle.translator.specs.Emit.{partOf, twoPieces, joinCode, flowsCode, eitherCode, labelCode, conditionCode};
 ghost use Rattle.translator.specs.Emit.{answerCode, guardedCode, ruleCode, tableCode, putAll, putCode, Emitted};
-ghost use Rattle.translator.specs.Translated.{handlerCount, translateOf};
-use policy::Checked;
-use policy::check_table;
-use policy::expression::Test;
-use policy::expression::Token;
-use policy::expression::test_of;
-use policy::expression::token_of;
+ghost use Rattle.translator.specs.Measure.{handlerCount, measureOf};
+use handler::code;
+use policy::Token;
+use policy::token_of;
 use program::Refusal;
+use tables::Checked;
+use tables::check_table;
+use tables::expression::Test;
+use tables::expression::test_of;
 use word::memory::at;
 use word::memory::put;
 
-// The answer to a translation: so many instructions were written, or would not fit, or the bytes are no table.
-pub enum Translated {
-    Written(usize),
-    Short(usize),
+// The codes of the kernel's instructions, as words of the handler space.
+const ADD: i64 = code::ADD as i64;
+
+const SUB: i64 = code::SUB as i64;
+
+const PUSH: i64 = code::PUSH as i64;
+
+const LOAD: i64 = code::LOAD as i64;
+
+const STORE: i64 = code::STORE as i64;
+
+const JUMP: i64 = code::JUMP as i64;
+
+const BNZ: i64 = code::BNZ as i64;
+
+const RET: i64 = code::RET as i64;
+
+const OR: i64 = code::OR as i64;
+
+const DUP: i64 = code::DUP as i64;
+
+// A slot for each rule, behind the six instructions of the computed jump; the first body stands behind them.
+const RULES: usize = policy::RULES as usize;
+
+const FIRST: usize = 6 + RULES;
+
+// The length of a table's handler, or why the bytes are no table.
+pub enum Measured {
+    Instructions(usize),
     Refused(Refusal),
 }
 
@@ -111,7 +137,7 @@ fn emit_label(bytes: &[u8], mark: Mark, depth: usize, space: &mut [i64]) -> Mark
     let part = part_of(token_of(bytes[at]));
     match part {
         Part::Empty => {
-            let zero = [0x05, 0];
+            let zero = [PUSH, 0];
             emit(space, position, &zero);
             Mark {
                 next,
@@ -119,7 +145,7 @@ fn emit_label(bytes: &[u8], mark: Mark, depth: usize, space: &mut [i64]) -> Mark
             }
         }
         Part::Word(address) => {
-            let read = [0x05, address as i64, 0x06, 0];
+            let read = [PUSH, address as i64, LOAD, 0];
             emit(space, position, &read);
             Mark {
                 next,
@@ -139,7 +165,7 @@ fn emit_join(bytes: &[u8], mark: Mark, depth: usize, space: &mut [i64]) -> Mark
     let first = emit_label(bytes, mark, depth, space);
     let second = emit_label(bytes, first, depth, space);
     let position = second.position;
-    let or = [0x0c, 0];
+    let or = [OR, 0];
     emit(space, position, &or);
     Mark {
         next: second.next,
@@ -160,7 +186,7 @@ fn emit_flows(bytes: &[u8], mark: Mark, depth: usize, space: &mut [i64]) -> Mark
     };
     let target = emit_label(bytes, second, depth, space);
     let place = target.position;
-    let dup = [0x0d, 0];
+    let dup = [DUP, 0];
     emit(space, place, &dup);
     let behind = place + 1;
     let first = Mark {
@@ -169,7 +195,7 @@ fn emit_flows(bytes: &[u8], mark: Mark, depth: usize, space: &mut [i64]) -> Mark
     };
     let source = emit_label(bytes, first, depth, space);
     let position = source.position;
-    let less = [0x0c, 0, 0x02, 0];
+    let less = [OR, 0, SUB, 0];
     emit(space, position, &less);
     let end = position + 2;
     Mark {
@@ -195,7 +221,7 @@ fn emit_condition(bytes: &[u8], mark: Mark, depth: usize, space: &mut [i64]) -> 
     let test = test_of(token_of(bytes[at]));
     match test {
         Test::True => {
-            let zero = [0x05, 0];
+            let zero = [PUSH, 0];
             emit(space, position, &zero);
             Mark {
                 next,
@@ -217,7 +243,7 @@ fn emit_both(bytes: &[u8], mark: Mark, depth: usize, space: &mut [i64]) -> Mark
     let first = emit_condition(bytes, mark, depth, space);
     let second = emit_condition(bytes, first, depth, space);
     let position = second.position;
-    let bits = [0x0c, 0];
+    let bits = [OR, 0];
     emit(space, position, &bits);
     Mark {
         next: second.next,
@@ -238,7 +264,7 @@ fn emit_either(bytes: &[u8], mark: Mark, depth: usize, space: &mut [i64]) -> Mar
     };
     let second = emit_condition(bytes, behind, depth, space);
     let over = second.position - place - 3;
-    let branches = [0x09, 4, 0x05, 0, 0x05, 1, 0x09, over as i64];
+    let branches = [BNZ, 4, PUSH, 0, PUSH, 1, BNZ, over as i64];
     emit(space, place, &branches);
     second
 }
@@ -255,7 +281,7 @@ fn emit_answer(bytes: &[u8], mark: Mark, space: &mut [i64]) -> Mark
     let place = emit_label(bytes, mark, 8, space);
     let result = emit_label(bytes, place, 8, space);
     let position = result.position;
-    let stores = [0x05, 6, 0x07, 0, 0x05, 5, 0x07, 0, 0x0b, 0];
+    let stores = [PUSH, 6, STORE, 0, PUSH, 5, STORE, 0, RET, 0];
     emit(space, position, &stores);
     Mark {
         next: result.next,
@@ -277,9 +303,9 @@ fn emit_guarded(bytes: &[u8], mark: Mark, space: &mut [i64]) -> Mark
     let answer = emit_answer(bytes, behind, space);
     let position = answer.position;
     let over = position - place;
-    let branch = [0x09, over as i64];
+    let branch = [BNZ, over as i64];
     emit(space, place, &branch);
-    let denial = [0x05, -1, 0x08, 0];
+    let denial = [PUSH, -1, JUMP, 0];
     emit(space, position, &denial);
     Mark {
         next: answer.next,
@@ -319,17 +345,17 @@ fn emit_table(bytes: &[u8], space: &mut [i64]) -> usize
     ensures count { λ r. ⌜ r ≡ length (tableCode (now (bytes .entry))) ⌝ }
     ensures written { λ r. ⌜ now (space .exit) ≡ putCode 0 (tableCode (now (bytes .entry))) (now (space .entry)) ⌝ }
 {
-    let dispatch = [0x05, 0, 0x06, 0, 0x0d, 0, 0x05, 5, 0x01, 0, 0x08, 0];
+    let dispatch = [PUSH, 0, LOAD, 0, DUP, 0, PUSH, 5, ADD, 0, JUMP, 0];
     emit(space, 0, &dispatch);
     let mut mark = Mark {
         next: 0,
-        position: 17,
+        position: FIRST,
     };
     let mut i: usize = 0;
-    while i < 11 {
+    while i < RULES {
         let slot = 6 + i;
         let ahead = mark.position - slot;
-        let branch = [0x09, ahead as i64];
+        let branch = [BNZ, ahead as i64];
         emit(space, slot, &branch);
         mark = emit_rule(bytes, mark, space);
         i += 1;
@@ -337,37 +363,39 @@ fn emit_table(bytes: &[u8], space: &mut [i64]) -> usize
     mark.position
 }
 
-// How many instructions the handler of a table's bytes has: those that are stored into a space of one word, where there is room for none.
-fn measured(bytes: &[u8]) -> usize
+// How many instructions are stored of a table's bytes: those that a space of one word is given, where there is room for none.
+fn instructions(bytes: &[u8]) -> usize
     ensures { λ r. ⌜ r ≡ length (tableCode (now (bytes .entry))) ⌝ }
 {
     let mut none = [0i64; 1];
     emit_table(bytes, &mut none)
 }
 
-pub fn count(bytes: &[u8]) -> usize
-    ensures { λ r. ⌜ r ≡ handlerCount (readTable (now (bytes .entry))) ⌝ }
+// Check 6 over any bytes, and the length of a table's handler.
+pub fn measure(bytes: &[u8]) -> Measured
+    ensures { λ r. ⌜ r ≡ measureOf (readTable (now (bytes .entry))) ⌝ }
 {
     let checked = check_table(bytes);
     match checked {
-        Checked::Accepted => measured(bytes),
-        Checked::Refused(_) => 0,
+        Checked::Accepted => Measured::Instructions(instructions(bytes)),
+        Checked::Refused(refusal) => Measured::Refused(refusal),
     }
 }
 
-pub fn translate(bytes: &[u8], space: &mut [i64]) -> Translated
-    ensures { λ r. ⌜ record { answer = r; space = now (space .exit) } ≡ translateOf (readTable (now (bytes .entry))) (now (space .entry)) ⌝ }
+// Stores the handler of a table's bytes without a check: as far as there is room, whatever the bytes.
+pub fn write(bytes: &[u8], space: &mut [i64])
+    ensures { λ _. ⌜ now (space .exit) ≡ putCode 0 (tableCode (now (bytes .entry))) (now (space .entry)) ⌝ }
 {
-    let checked = check_table(bytes);
-    match checked {
-        Checked::Refused(refusal) => Translated::Refused(refusal),
-        Checked::Accepted => {
-            let count = measured(bytes);
-            if space.len() < 2 * count {
-                return Translated::Short(count);
-            }
-            emit_table(bytes, space);
-            Translated::Written(count)
-        }
+    emit_table(bytes, space);
+}
+
+// How many instructions the handler of a table has; bytes that are no table have none.
+pub fn count(bytes: &[u8]) -> usize
+    ensures { λ r. ⌜ r ≡ handlerCount (readTable (now (bytes .entry))) ⌝ }
+{
+    let measured = measure(bytes);
+    match measured {
+        Measured::Instructions(count) => count,
+        Measured::Refused(_) => 0,
     }
 }

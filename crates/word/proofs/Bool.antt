@@ -1,9 +1,13 @@
--- Laws of Booleans that other laws rest on.
+-- Laws of Booleans, and of what cannot be, that other laws rest on.
 use mathlib.Core.Path.{_≡_, refl}
 use mathlib.Core.Bool.{Bool, true, false, _&&_}
 use Prim.Native.Nat.{ℕ, max}
 use native.Mathlib.Omega.{arith}
 use lib.Dec.{T, leb, leb→le, le→leb}
+
+-- 0 is not 1: whatever would make them equal cannot be
+pub never : {A : Type 0} → _≡_ {A = ℕ} 0 1 → A
+never z = absurd (omega arith)
 
 -- two Booleans are equal where each implies the other
 pub bool-ext : (a b : Bool) → (T a → T b) → (T b → T a) → a ≡ b

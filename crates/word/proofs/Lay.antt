@@ -1,11 +1,11 @@
 -- Laws of lent memory: nothing written changes nothing, one element more is one store more, and the length stays.
 -- Assumes nothing.
-use mathlib.Core.Path.{_≡_, refl, sym, ap, _∙_}
+use mathlib.Core.Path.{_≡_, sym, ap, _∙_}
 use mathlib.Core.List.{List, [], _∷_, _++_, append-assoc, append-nil}
-use Prim.Native.Nat.{ℕ, zero, suc, _+_, _<_, _≤_}
+use Prim.Native.Nat.{ℕ, suc, _+_, _<_, _≤_}
 use native.Mathlib.Nat.{add-zero, zero-add, add-suc, suc-add}
 use native.Mathlib.Omega.{arith}
-use lib.ListN.{length, take, drop, set, take-append-drop, length-append, length-take, length-drop, length-set}
+use lib.ListN.{length, drop, set, take-append-drop, length-append, length-drop, length-set}
 use lib.Seq.{take-suc-set, take-set-le, drop-set-lt, drop-cons, getD-set-same, lt-length-set, length-take-le}
 use Rattle.word.specs.Lay.{laid, laidAt}
 

@@ -1,7 +1,7 @@
 -- Signed words: a number read back from its bits, and the sign.
 -- Assumes nothing.
-use mathlib.Core.Path.{_≡_, refl, sym, subst}
-use mathlib.Core.Bool.{Bool, true, false}
+use mathlib.Core.Path.{_≡_, refl}
+use mathlib.Core.Bool.{true, false}
 use Prim.Native.Nat.{ℕ, _^_, _<_}
 use native.Mathlib.Omega.{arith}
 use lib.IntN.{ℤ, pos, negsuc, natAbs}
@@ -11,7 +11,6 @@ use borrow.Author.Tests.{ltb-true}
 use mir.Syntax.{w64}
 use mir.Val.{SFits, Fits, toZ, ofZ}
 use mir.Facts.{toZ-ofZ}
-use Rattle.word.specs.declared.number.Natural.{Natural}
 use Rattle.word.specs.declared.number.Natural.the-variants.{Of, Negative}
 use Rattle.word.specs.Number.{naturalOf}
 

@@ -1,3 +1,4 @@
+pub mod Choose
 pub mod Lay
 pub mod Wrap
 pub mod Number

@@ -1,7 +1,10 @@
--- Numbers as text: ASCII digits, the highest first.
+-- Text as ASCII bytes; numbers as text: digits, the highest first.
 use Prim.Native.Nat.{ℕ, zero, suc, _+_, _-_, _/_}
+use Prim.Native.Char.{code}
+use Prim.Native.String.{String}
+use Prim.Native.String as String
 use mathlib.Core.Bool.{Bool, true, false}
-use mathlib.Core.List.{List, _∷_, map, reverse}
+use mathlib.Core.List.{List, [], _∷_, map, reverse}
 use lib.IntN.{ℤ, pos, negsuc}
 use lib.ListN.{length}
 use lib.Dec.{ltb, leb}
@@ -9,6 +12,11 @@ use Rattle.word.specs.Digits.{digitsOf, valueOf}
 use Rattle.word.specs.Lay.{laidAt}
 use Rattle.word.specs.declared.text.Put.{Put}
 use Rattle.word.specs.declared.text.Put.the-variants.{Next, NoRoom}
+
+-- the bytes of a text
+abbrev pub ascii : String → List ℕ
+ascii String.[] = []
+ascii (String._∷_ c s) = code c ∷ ascii s
 
 abbrev pub digitIf : Bool → ℕ → ℕ
 digitIf true d = 48 + d

@@ -46,7 +46,7 @@ pub fn run(words: &[i64], count: usize, memory: &mut RuleMemory) -> Result<(Endi
         let mut pop = || stack.pop().ok_or(Breach::ValueMissing);
         let mut next = place + 1;
         match code {
-            0x01 | 0x02 | 0x0c => {
+            0x01 | 0x02 | 0x11 => {
                 let (top, under) = (pop()?, pop()?);
                 stack.push(match code {
                     0x01 => top.wrapping_add(under),
@@ -63,11 +63,11 @@ pub fn run(words: &[i64], count: usize, memory: &mut RuleMemory) -> Result<(Endi
                 let (address, number) = (pop()?, pop()?);
                 memory[word(address)?] = number;
             }
-            0x0d => {
+            0x12 => {
                 let top = pop()?;
                 stack.extend([top, top]);
             }
-            0x0e => {
+            0x13 => {
                 let (top, under) = (pop()?, pop()?);
                 stack.extend([top, under]);
             }

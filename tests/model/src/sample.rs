@@ -10,8 +10,8 @@ const STORE: i64 = 0x07;
 const JUMP: i64 = 0x08;
 const BNZ: i64 = 0x09;
 const RET: i64 = 0x0b;
-const OR: i64 = 0x0c;
-const DUP: i64 = 0x0d;
+const OR: i64 = 0x11;
+const DUP: i64 = 0x12;
 
 /// The kernel commands of a handler, two words each.
 #[derive(Clone, Debug, Default)]

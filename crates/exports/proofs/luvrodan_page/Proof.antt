@@ -7,18 +7,9 @@ use borrow.Author.Needs.{needs}
 use Rattle.exports.proofs.luvrodan_page.Statement.{statement}
 use Rattle.exports.proofs.luvrodan_page.Tie as tie
 
-page-requires : tie.Need-page-requires
-page-requires c κs = search needs
-
-of-page-requires : tie.Need-of-page-requires
-of-page-requires c κs = search needs
-
-same-length : tie.Need-same-length
-same-length c = search needs
-
 returns : tie.Need-returns
 unfolding exportedPage
 returns c = let e = c .before .before .before in ap₂ pageLeft (c .of-page .ensures ∙ ap pageResult (e .page .ensures .0)) (e .page .ensures .1)
 
 pub luvrodan-page-spec : {M : Type 1} → statement M
-luvrodan-page-spec = tie.close (tie.spec page-requires of-page-requires same-length returns)
+luvrodan-page-spec = tie.close (tie.spec (λ c κs. search needs) (λ c κs. search needs) (λ c. search needs) returns)

@@ -6,15 +6,6 @@ use borrow.Author.Needs.{needs}
 use Rattle.kernel.proofs.act.Statement.{statement}
 use Rattle.kernel.proofs.act.Tie as tie
 
-to-bits-requires : tie.Need-to-bits-requires
-to-bits-requires c κs = search needs
-
-choose-requires : tie.Need-choose-requires
-choose-requires c κs = search needs
-
-same-length : tie.Need-same-length
-same-length c = search needs
-
 returns : tie.Need-returns
 returns c =
     let at-choose = c .before in
@@ -26,4 +17,4 @@ returns c =
     at (at-choose .choose .ensures)
 
 pub act-spec : {M : Type 1} → statement M
-act-spec = tie.close (tie.spec to-bits-requires choose-requires same-length returns)
+act-spec = tie.close (tie.spec (λ c κs. search needs) (λ c κs. search needs) (λ c. search needs) returns)

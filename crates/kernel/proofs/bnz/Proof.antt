@@ -7,38 +7,8 @@ use borrow.Author.Needs.{needs}
 use Rattle.kernel.proofs.bnz.Statement.{statement}
 use Rattle.kernel.proofs.bnz.Tie as tie
 
-ended-requires : tie.Need-ended-requires
-ended-requires c κs = search needs
-
 returns : tie.Need-returns
 returns c = rw (c .ended .ensures) (bnz-none _ _ _ _ _ (c .before .if1 .taken))
-
-mul-sized : tie.Need-mul-sized
-mul-sized c = search needs
-
-shared-slice-copy-out-sized : tie.Need-shared-slice-copy-out-sized
-shared-slice-copy-out-sized c = search needs
-
-sized-requires : tie.Need-sized-requires
-sized-requires c κs = search needs
-
-enum-known-tested : tie.Need-enum-known-tested
-enum-known-tested c = search needs
-
-add-gone : tie.Need-add-gone
-add-gone c = search needs
-
-gone-requires : tie.Need-gone-requires
-gone-requires c κs = search needs
-
-branch-requires : tie.Need-branch-requires
-branch-requires c κs = search needs
-
-enum-told : tie.Need-enum-told
-enum-told c = search needs
-
-branch-requires-2 : tie.Need-branch-requires-2
-branch-requires-2 c κs = search needs
 
 returns-2 : tie.Need-returns-2
 returns-2 c =
@@ -72,17 +42,17 @@ pub bnz-spec : {M : Type 1} → statement M
 bnz-spec =
     tie.close
     (tie.spec
-    ended-requires
+    (λ c κs. search needs)
     returns
-    mul-sized
-    shared-slice-copy-out-sized
-    sized-requires
-    enum-known-tested
-    add-gone
-    gone-requires
-    branch-requires
-    enum-told
-    branch-requires-2
+    (λ c. search needs)
+    (λ c. search needs)
+    (λ c κs. search needs)
+    (λ c. search needs)
+    (λ c. search needs)
+    (λ c κs. search needs)
+    (λ c κs. search needs)
+    (λ c. search needs)
+    (λ c κs. search needs)
     returns-2
     returns-3
     returns-4)

@@ -14,32 +14,11 @@ use Rattle.kernel.proofs.branch.Tie as tie
 sized-as : (a : tie.After-sized) → a .sized .result ≡ wholeOf (a .before .args .operand)
 sized-as a = rw (back {z = a .before .args .operand} (a .before .fits .operand)) at (a .sized .ensures)
 
-sized-requires : tie.Need-sized-requires
-sized-requires c κs = search needs
-
-enum-known-distance : tie.Need-enum-known-distance
-enum-known-distance c = search needs
-
 add-gone : tie.Need-add-gone
 add-gone c =
     let at-sized = c .before .before .before .before in
     let small = whole-small _ _ (at-sized .before .fits .operand) (sym (sized-as at-sized) ∙ c .before .before .distance .given .1) in
     record { fits = omega (arith, at-sized .before .pre) }
-
-gone-requires : tie.Need-gone-requires
-gone-requires c κs = search needs
-
-ended-requires : tie.Need-ended-requires
-ended-requires c κs = search needs
-
-enum-known-distance-2 : tie.Need-enum-known-distance-2
-enum-known-distance-2 c = search needs
-
-ended-requires-2 : tie.Need-ended-requires-2
-ended-requires-2 c κs = search needs
-
-ended-requires-3 : tie.Need-ended-requires-3
-ended-requires-3 c κs = search needs
 
 returns : tie.Need-returns
 returns c =
@@ -65,14 +44,14 @@ pub branch-spec : {M : Type 1} → statement M
 branch-spec =
     tie.close
     (tie.spec
-    sized-requires
-    enum-known-distance
+    (λ c κs. search needs)
+    (λ c. search needs)
     add-gone
-    gone-requires
-    ended-requires
-    enum-known-distance-2
-    ended-requires-2
-    ended-requires-3
+    (λ c κs. search needs)
+    (λ c κs. search needs)
+    (λ c. search needs)
+    (λ c κs. search needs)
+    (λ c κs. search needs)
     returns
     returns-2
     returns-3

@@ -6,9 +6,6 @@ use borrow.Author.Needs.{needs}
 use Rattle.kernel.proofs.combine.Statement.{statement}
 use Rattle.kernel.proofs.combine.Tie as tie
 
-add-requires : tie.Need-add-requires
-add-requires c κs = search needs
-
 returns : tie.Need-returns
 returns c =
     let start = c .before .before in
@@ -19,9 +16,6 @@ returns c =
       back {z = start .args .a} (start .fits .a),
       back {z = start .args .b} (start .fits .b),
     )
-
-sub-requires : tie.Need-sub-requires
-sub-requires c κs = search needs
 
 returns-2 : tie.Need-returns-2
 returns-2 c =
@@ -34,9 +28,6 @@ returns-2 c =
       back {z = start .args .a} (start .fits .a),
       back {z = start .args .b} (start .fits .b),
     )
-
-or-requires : tie.Need-or-requires
-or-requires c κs = search needs
 
 returns-3 : tie.Need-returns-3
 returns-3 c =
@@ -52,4 +43,4 @@ returns-3 c =
 
 pub combine-spec : {M : Type 1} → statement M
 combine-spec =
-    tie.close (tie.spec add-requires returns sub-requires returns-2 or-requires returns-3)
+    tie.close (tie.spec (λ c κs. search needs) returns (λ c κs. search needs) returns-2 (λ c κs. search needs) returns-3)

@@ -6,23 +6,8 @@ use borrow.Author.Needs.{needs}
 use Rattle.kernel.proofs.dup.Statement.{statement}
 use Rattle.kernel.proofs.dup.Tie as tie
 
-ended-requires : tie.Need-ended-requires
-ended-requires c κs = search needs
-
 returns : tie.Need-returns
 returns c = rw (c .ended .ensures) (dup-none _ _ _ _ (c .before .if1 .taken))
-
-mul-a : tie.Need-mul-a
-mul-a c = search needs
-
-slice-copy-out-a : tie.Need-slice-copy-out-a
-slice-copy-out-a c = search needs
-
-push-requires : tie.Need-push-requires
-push-requires c κs = search needs
-
-same-length : tie.Need-same-length
-same-length c = search needs
 
 returns-2 : tie.Need-returns-2
 returns-2 c =
@@ -33,4 +18,4 @@ returns-2 c =
 pub dup-spec : {M : Type 1} → statement M
 dup-spec =
     tie.close
-    (tie.spec ended-requires returns mul-a slice-copy-out-a push-requires same-length returns-2)
+    (tie.spec (λ c κs. search needs) returns (λ c. search needs) (λ c. search needs) (λ c κs. search needs) (λ c. search needs) returns-2)

@@ -6,47 +6,8 @@ use borrow.Author.Needs.{needs}
 use Rattle.kernel.proofs.fold.Statement.{statement}
 use Rattle.kernel.proofs.fold.Tie as tie
 
-ended-requires : tie.Need-ended-requires
-ended-requires c κs = search needs
-
 returns : tie.Need-returns
 returns c = rw (c .ended .ensures) (fold-none _ _ _ (c .before .before .args .code) _ (c .before .if1 .taken))
-
-sub-a : tie.Need-sub-a
-sub-a c = search needs
-
-mul-a : tie.Need-mul-a
-mul-a c = search needs
-
-slice-copy-out-a : tie.Need-slice-copy-out-a
-slice-copy-out-a c = search needs
-
-mul-b : tie.Need-mul-b
-mul-b c = search needs
-
-slice-copy-out-b : tie.Need-slice-copy-out-b
-slice-copy-out-b c = search needs
-
-combine-requires : tie.Need-combine-requires
-combine-requires c κs = search needs
-
-mul-t10 : tie.Need-mul-t10
-mul-t10 c = search needs
-
-slice-set-from-stack : tie.Need-slice-set-from-stack
-slice-set-from-stack c = search needs
-
-add-gone : tie.Need-add-gone
-add-gone c = search needs
-
-sub-gone : tie.Need-sub-gone
-sub-gone c = search needs
-
-gone-requires : tie.Need-gone-requires
-gone-requires c κs = search needs
-
-same-length : tie.Need-same-length
-same-length c = search needs
 
 returns-2 : tie.Need-returns-2
 returns-2 c =
@@ -68,18 +29,18 @@ pub fold-spec : {M : Type 1} → statement M
 fold-spec =
     tie.close
     (tie.spec
-    ended-requires
+    (λ c κs. search needs)
     returns
-    sub-a
-    mul-a
-    slice-copy-out-a
-    mul-b
-    slice-copy-out-b
-    combine-requires
-    mul-t10
-    slice-set-from-stack
-    add-gone
-    sub-gone
-    gone-requires
-    same-length
+    (λ c. search needs)
+    (λ c. search needs)
+    (λ c. search needs)
+    (λ c. search needs)
+    (λ c. search needs)
+    (λ c κs. search needs)
+    (λ c. search needs)
+    (λ c. search needs)
+    (λ c. search needs)
+    (λ c. search needs)
+    (λ c κs. search needs)
+    (λ c. search needs)
     returns-2)

@@ -57,9 +57,6 @@ module _ (a : tie.After-act Inv-loop μ-loop) where
   row-kept : length (head .loop .row) ≡ length (now (begin .args .row))
   row-kept = head .loop .inv .words ∙ sym (begin .pre .1)
 
-held-requires : tie.Need-held-requires Inv-loop μ-loop
-held-requires c κs = search needs
-
 loop-holds : tie.Need-loop-holds Inv-loop μ-loop
 loop-holds c = going-start _ _ _ _ (c .before .pre .0) (c .before .pre .1)
 
@@ -90,12 +87,6 @@ act-requires c κs =
     let g = t .before .loop .inv in
     (omega (arith, near t), g .deep, g .size, g .words)
 
-enum-told : tie.Need-enum-told Inv-loop μ-loop
-enum-told c = search needs
-
-put-requires : tie.Need-put-requires Inv-loop μ-loop
-put-requires c κs = search needs
-
 add-steps : tie.Need-add-steps Inv-loop μ-loop
 add-steps c = record { fits = omega (arith, counted (test (c .before .before .before .before .before .before .before))) }
 
@@ -114,14 +105,8 @@ loop-again c =
     (going-on _ _ _ _ (limited a) _ _ _ _ _ (head a .loop .inv) (test a .loop-test .taken) _ _ (acted a) (told .enum-told .given .1)
     (a .act .kept .1 .1 .1 .1 .0))
 
-enum-told-2 : tie.Need-enum-told-2 Inv-loop μ-loop
-enum-told-2 c = search needs
-
 add-finish : tie.Need-add-finish Inv-loop μ-loop
 add-finish c = record { fits = omega (arith, counted (test (c .before .before .before))) }
-
-finish-requires : tie.Need-finish-requires Inv-loop μ-loop
-finish-requires c κs = search needs
 
 same-length : tie.Need-same-length Inv-loop μ-loop
 same-length c = stack-kept (c .before .before .before .before)
@@ -135,14 +120,8 @@ returns c =
     rw (c .finish .ensures)
     (going-returned _ _ _ _ (limited a) _ _ _ _ _ (head a .loop .inv) (test a .loop-test .taken) _ _ (acted a) (c .before .enum-told2 .given .1))
 
-enum-told-3 : tie.Need-enum-told-3 Inv-loop μ-loop
-enum-told-3 c = search needs
-
 add-finish-2 : tie.Need-add-finish-2 Inv-loop μ-loop
 add-finish-2 c = record { fits = omega (arith, counted (test (c .before .before .before))) }
-
-finish-requires-2 : tie.Need-finish-requires-2 Inv-loop μ-loop
-finish-requires-2 c κs = search needs
 
 same-length-3 : tie.Need-same-length-3 Inv-loop μ-loop
 same-length-3 c = stack-kept (c .before .before .before .before)
@@ -156,12 +135,6 @@ returns-2 c =
     rw (c .finish2 .ensures)
     (going-denied _ _ _ _ (limited a) _ _ _ _ _ (head a .loop .inv) (test a .loop-test .taken) _ _ (acted a) (c .before .enum-told3 .given .1))
 
-enum-told-4 : tie.Need-enum-told-4 Inv-loop μ-loop
-enum-told-4 c = search needs
-
-finish-requires-3 : tie.Need-finish-requires-3 Inv-loop μ-loop
-finish-requires-3 c κs = search needs
-
 same-length-5 : tie.Need-same-length-5 Inv-loop μ-loop
 same-length-5 c = stack-kept (c .before .before .before .before)
 
@@ -173,9 +146,6 @@ returns-3 c =
     let a = c .before .before .before .before in
     rw (c .finish3 .ensures)
     (going-failed _ _ _ _ (limited a) _ _ _ _ _ (head a .loop .inv) (test a .loop-test .taken) _ _ (acted a) (c .before .enum-told4 .given .1))
-
-finish-requires-4 : tie.Need-finish-requires-4 Inv-loop μ-loop
-finish-requires-4 c κs = search needs
 
 same-length-7 : tie.Need-same-length-7 Inv-loop μ-loop
 same-length-7 c = c .before .before .loop .inv .size ∙ sym (c .before .before .before .before .pre .0)
@@ -194,7 +164,7 @@ go-spec =
     (tie.spec
     Inv-loop
     μ-loop
-    held-requires
+    (λ c κs. search needs)
     loop-holds
     mul-act
     mul-act-2
@@ -204,29 +174,29 @@ go-spec =
     mul-act-4
     shared-slice-copy-out-act-2
     act-requires
-    enum-told
-    put-requires
+    (λ c. search needs)
+    (λ c κs. search needs)
     add-steps
     loop-less
     loop-again
-    enum-told-2
+    (λ c. search needs)
     add-finish
-    finish-requires
+    (λ c κs. search needs)
     same-length
     same-length-2
     returns
-    enum-told-3
+    (λ c. search needs)
     add-finish-2
-    finish-requires-2
+    (λ c κs. search needs)
     same-length-3
     same-length-4
     returns-2
-    enum-told-4
-    finish-requires-3
+    (λ c. search needs)
+    (λ c κs. search needs)
     same-length-5
     same-length-6
     returns-3
-    finish-requires-4
+    (λ c κs. search needs)
     same-length-7
     same-length-8
     returns-4)

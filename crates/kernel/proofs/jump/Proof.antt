@@ -6,20 +6,8 @@ use borrow.Author.Needs.{needs}
 use Rattle.kernel.proofs.jump.Statement.{statement}
 use Rattle.kernel.proofs.jump.Tie as tie
 
-ended-requires : tie.Need-ended-requires
-ended-requires c κs = search needs
-
 returns : tie.Need-returns
 returns c = rw (c .ended .ensures) (jump-none _ _ _ _ (c .before .if1 .taken))
-
-mul-jump-to : tie.Need-mul-jump-to
-mul-jump-to c = search needs
-
-shared-slice-copy-out-jump-to : tie.Need-shared-slice-copy-out-jump-to
-shared-slice-copy-out-jump-to c = search needs
-
-jump-to-requires : tie.Need-jump-to-requires
-jump-to-requires c κs = search needs
 
 returns-2 : tie.Need-returns-2
 returns-2 c =
@@ -30,9 +18,9 @@ pub jump-spec : {M : Type 1} → statement M
 jump-spec =
     tie.close
     (tie.spec
-    ended-requires
+    (λ c κs. search needs)
     returns
-    mul-jump-to
-    shared-slice-copy-out-jump-to
-    jump-to-requires
+    (λ c. search needs)
+    (λ c. search needs)
+    (λ c κs. search needs)
     returns-2)

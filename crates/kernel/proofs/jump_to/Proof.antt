@@ -12,27 +12,6 @@ use Rattle.kernel.proofs.jump_to.Tie as tie
 sized-as : (a : tie.After-sized) → a .sized .result ≡ wholeOf (a .before .args .target)
 sized-as a = rw (back {z = a .before .args .target} (a .before .fits .target)) at (a .sized .ensures)
 
-sized-requires : tie.Need-sized-requires
-sized-requires c κs = search needs
-
-enum-known-to : tie.Need-enum-known-to
-enum-known-to c = search needs
-
-gone-requires : tie.Need-gone-requires
-gone-requires c κs = search needs
-
-ended-requires : tie.Need-ended-requires
-ended-requires c κs = search needs
-
-enum-known-to-2 : tie.Need-enum-known-to-2
-enum-known-to-2 c = search needs
-
-ended-requires-2 : tie.Need-ended-requires-2
-ended-requires-2 c κs = search needs
-
-ended-requires-3 : tie.Need-ended-requires-3
-ended-requires-3 c κs = search needs
-
 returns : tie.Need-returns
 returns c =
     let at-to = c .before .before .before in
@@ -57,13 +36,13 @@ pub jump-to-spec : {M : Type 1} → statement M
 jump-to-spec =
     tie.close
     (tie.spec
-    sized-requires
-    enum-known-to
-    gone-requires
-    ended-requires
-    enum-known-to-2
-    ended-requires-2
-    ended-requires-3
+    (λ c κs. search needs)
+    (λ c. search needs)
+    (λ c κs. search needs)
+    (λ c κs. search needs)
+    (λ c. search needs)
+    (λ c κs. search needs)
+    (λ c κs. search needs)
     returns
     returns-2
     returns-3

@@ -5,6 +5,7 @@ use mathlib.Core.List.{List, [], _∷_, _++_, map}
 use Prim.Native.Nat.{ℕ, zero, suc}
 use lib.IntN.{ℤ, pos, negsuc, _+ℤ_}
 use lib.ListN.{set}
+use mathlib.Core.Option.{Option, none, some}
 use Rattle.word.specs.Wrap.{addWrap, subWrap}
 use Rattle.label.specs.Label.{bottom}
 use Rattle.program.specs.declared.Command.{Command}
@@ -12,6 +13,7 @@ use Rattle.program.specs.declared.Command.the-variants.{Add, Sub, Pop, Output, 
 use Rattle.machine.specs.Atom.{Entry, value, frame, Line}
 use Rattle.machine.specs.State.{State}
 use Rattle.machine.specs.Step.{atom, branch}
+use Rattle.machine.specs.Run.{commandAt}
 use Rattle.machine.specs.Claim.{view}
 use Rattle.machine.proofs.Privacy.Seen.{Seen, shown, unseen, see, one, both}
 
@@ -143,14 +145,12 @@ cutAt unseen es = cut es
 abbrev pub trim : View → View
 trim v = record { pc = v .pc; stack = cutAt (v .pc) (v .stack); memory = v .memory; lines = v .lines }
 
-abbrev pub actElement : List Command → ℕ → View → View
-actElement [] i v = v
-actElement (c ∷ cs) zero v = act c v
-actElement (c ∷ cs) (suc i) v = actElement cs i v
+abbrev pub actSome : Option Command → View → View
+actSome none v = v
+actSome (some c) v = act c v
 
 abbrev pub actAt : List Command → ℤ → View → View
-actAt cs (pos i) v = actElement cs i v
-actAt cs (negsuc i) v = v
+actAt cs z v = actSome (commandAt cs z) v
 
 -- the command at a place that is seen; otherwise all that can be seen is the return to a frame
 abbrev pub actHere : List Command → Seen → View → View

@@ -7,14 +7,16 @@ use mathlib.Core.Bool.{Bool, true, false}
 use mathlib.Core.List.{List, [], _∷_, _++_, append-nil, append-assoc}
 use Prim.Native.Nat.{ℕ, zero, suc}
 use lib.Seq.{take-append-seam}
-use lib.IntN.{ℤ, pos, negsuc}
+use lib.IntN.{ℤ}
+use mathlib.Core.Option.{Option, none, some}
 use Rattle.program.specs.declared.Command.{Command}
 use Rattle.program.specs.declared.Command.the-variants.{Add, Sub, Pop, Output, Push, Load, Store, Jump, Bnz, Call, Ret}
 use Rattle.machine.specs.Atom.{Atom, Line}
 use Rattle.machine.specs.Claim.{Start, OneStartsOther}
+use Rattle.machine.specs.Run.{commandAt}
 use Rattle.machine.proofs.Privacy.Seen.{Seen, shown, unseen, showIf, both}
 use Rattle.machine.proofs.Privacy.Erasure.{View, Slot, holds, returns, pull, pulls, unwind, moveTo, first, written}
-use Rattle.machine.proofs.Privacy.Erasure.{act, cut, trim, actElement, actAt, actHere, move, moves}
+use Rattle.machine.proofs.Privacy.Erasure.{act, cut, trim, actSome, actAt, actHere, move, moves}
 
 -- what a command does with the values on top, which stand above every frame
 pull-all : (P : View → Type 0) (v : View) (es : List Slot) (k : Seen → List Slot → View)
@@ -76,14 +78,12 @@ module _ (es : List Slot) (cells : List Seen) (ls : List Line) where
 
 -- what holds of a view and of what each command makes of it holds of what the command at a place makes of it
 module _ (P : View → Type 0) (v : View) (stays : P v) (acts : (c : Command) → P (act c v)) where
-  element-all : (cs : List Command) (i : ℕ) → P (actElement cs i v)
-  element-all [] i = stays
-  element-all (c ∷ cs) zero = acts c
-  element-all (c ∷ cs) (suc i) = element-all cs i
+  some-all : (o : Option Command) → P (actSome o v)
+  some-all none = stays
+  some-all (some c) = acts c
 
   at-all : (cs : List Command) (z : ℤ) → P (actAt cs z v)
-  at-all cs (pos i) = element-all cs i
-  at-all cs (negsuc i) = stays
+  at-all cs z = some-all (commandAt cs z)
 
   here-all : (cs : List Command) (p : Seen) → P (actHere cs p v)
   here-all cs (shown p) = at-all cs (p .number)

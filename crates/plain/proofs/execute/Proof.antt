@@ -3,15 +3,25 @@
 use native.Mathlib.Omega.{arith}
 use mathlib.Core.Path.{_≡_, _∙_, sym, ap}
 use Prim.Native.Nat.{ℕ}
+use mathlib.Core.List.{List}
+use lib.ListN.{length}
 use denote.Ref.{now}
+use Rattle.program.specs.declared.Command.{Command}
 use Rattle.program.specs.declared.Checked.the-variants as Checked
-use Rattle.program.specs.Decode.{checkAnswer}
+use Rattle.program.specs.Decode.{accepted, checkAnswer}
 use Rattle.program.proofs.Encoding.{Bytes}
-use Rattle.step.specs.Words.{started}
-use Rattle.step.specs.Lent.{lent}
-use Rattle.plain.specs.Loop.{loopOf}
-use Rattle.plain.specs.Plain.{Memory, memory}
-use Rattle.plain.proofs.Accepted.{answer, count-few, count-space, execute-refused, execute-accepted}
+use Rattle.program.proofs.Loading.{written-accepted}
+use Rattle.machine.specs.Rule.{standard, fixed}
+use Rattle.machine.proofs.Holds.{standard-range}
+use Rattle.step.specs.Lent.{cells, lent}
+use Rattle.engine.specs.Memory.{output, Memory, memory}
+use Rattle.engine.specs.Start.{noneOwn}
+use Rattle.engine.specs.Loop.{done}
+use Rattle.engine.specs.Ended.{engineOf}
+use Rattle.engine.proofs.Accepted.{Fine, answer, start-fine, refused-is, taken, few, loop-whole}
+use Rattle.plain.specs.Ruler.{standardRuler}
+use Rattle.plain.specs.Plain.{plain}
+use Rattle.plain.proofs.Following.{standard-follows}
 use borrow.Author.Needs.{needs}
 use Rattle.plain.proofs.execute.Statement.{statement}
 use Rattle.plain.proofs.execute.Tie as tie
@@ -19,104 +29,90 @@ use Rattle.plain.proofs.execute.Tie as tie
 -- the lent runs as they came
 abbrev lentMemory : tie.Start → Memory
 lentMemory s =
-    memory (now (s .args .values)) (now (s .args .labels)) (now (s .args .program)) (now (s .args .stack)) (now (s .args .numbers))
-    (now (s .args .marks))
+    memory (now (s .args .program)) (lent (now (s .args .stack)) (cells (now (s .args .values)) (now (s .args .labels))))
+    (output (now (s .args .numbers)) (now (s .args .line-labels)))
 
 -- the sheet is accepted
 module _ (k : tie.After-checked2) where
   abbrev start : tie.Start
-  start = k .before .before .before .before .before
+  start = k .before .before .before .before .before .before
 
   abbrev count : ℕ
   count = k .checked2 .given .0 .0
 
   bytes : Bytes (now (start .args .sheet))
-  bytes i = omega (arith, k .before .before .before .before .shared-slice-known .given i)
+  bytes i = omega (arith, k .before .before .before .before .before .shared-slice-known .given i)
 
-  checked : Checked.Accepted count ≡ checkAnswer (answer (now (start .args .sheet)) (lentMemory start) (start .args .fuel))
-  checked = sym (k .checked2 .given .1) ∙ k .before .before .check .ensures
+  checked : Checked.Accepted count ≡ checkAnswer (answer (now (start .args .sheet)) (lentMemory start) (start .args .fuel) noneOwn)
+  checked =
+      rw (k .before .before .before .none .ensures) at (sym (k .checked2 .given .1) ∙ k .before .before .check .ensures)
 
-check-requires : tie.Need-check-requires
-check-requires c κs = search needs
+  abbrev commands : List Command
+  commands = taken (now (start .args .sheet)) (lentMemory start) (start .args .fuel) noneOwn count checked .0
 
-enum-known-checked : tie.Need-enum-known-checked
-enum-known-checked c = search needs
+  accepts : answer (now (start .args .sheet)) (lentMemory start) (start .args .fuel) noneOwn ≡ accepted commands
+  accepts = taken (now (start .args .sheet)) (lentMemory start) (start .args .fuel) noneOwn count checked .1
 
-enum-known-checked-2 : tie.Need-enum-known-checked-2
-enum-known-checked-2 c = search needs
+  same-count : count ≡ length commands
+  same-count = taken (now (start .args .sheet)) (lentMemory start) (start .args .fuel) noneOwn count checked .2
 
-load-requires : tie.Need-load-requires
-load-requires c κs = search needs
+  fine : Fine (now (start .args .sheet)) (lentMemory start) (start .args .fuel) noneOwn commands
+  fine = start-fine (now (start .args .sheet)) (lentMemory start) (start .args .fuel) noneOwn commands accepts
 
-smaller-requires : tie.Need-smaller-requires
-smaller-requires c κs = search needs
-
-go-requires : tie.Need-go-requires
-go-requires c κs =
-    let load = c .before .before .before .before .before .before .before .before in
-    let k = load .before .before .before in
-    let few = count-few _ (lentMemory (start k)) _ (bytes k) (count k) (checked k) in
-    let space = count-space _ (lentMemory (start k)) _ (bytes k) (count k) (checked k) in
-    (few, omega (arith, space, load .load .kept .1 .0))
-
-same-length : tie.Need-same-length
-same-length c = search needs
+accepted-requires : tie.Need-accepted-requires
+accepted-requires c κs =
+    let at-write = c .before .before .before .before .before .before .before .before in
+    let k = at-write .before .before .before in (
+      rw (same-count k) (few _ (lentMemory (start k)) _ noneOwn (bytes k) (commands k) (fine k)),
+      rw (same-count k) (omega (arith, fine k .program, at-write .write .kept .1 .0)),
+      fine k .stack,
+      fine k .many,
+      fine k .equal,
+    )
 
 returns : tie.Need-returns
+unfolding plain
 returns c =
-    let s = c .before .before .before .before .before .before in
-    execute-refused (now (s .args .sheet)) (lentMemory s) (s .args .fuel) (c .before .checked .given .0 .0)
-    (sym (c .before .checked .given .1) ∙ c .before .before .before .check .ensures)
-
-same-length-2 : tie.Need-same-length-2
-same-length-2 c = search needs
-
-same-length-3 : tie.Need-same-length-3
-same-length-3 c = search needs
-
-same-length-4 : tie.Need-same-length-4
-same-length-4 c = search needs
-
-same-length-5 : tie.Need-same-length-5
-same-length-5 c = search needs
-
-same-length-6 : tie.Need-same-length-6
-same-length-6 c = search needs
-
-same-length-7 : tie.Need-same-length-7
-same-length-7 c = search needs
+    let at-check = c .before .before .before in
+    let s = at-check .before .before .before .before in
+    refused-is (now (s .args .sheet)) (lentMemory s) (s .args .fuel) noneOwn (fixed standard) tt (c .before .checked .given .0 .0)
+    (rw (at-check .before .none .ensures) at (sym (c .before .checked .given .1) ∙ at-check .check .ensures))
 
 returns-2 : tie.Need-returns-2
+unfolding plain
 returns-2 c =
-    let g = c .before .before .before .before .before in
-    let small = g .before .before .before .before .before .before .before in
-    let load = small .before .before in
-    let k = load .before .before .before in
+    let at-go = c .before .before .before .before .before in
+    let at-room = at-go .before .before .before .before .before .before .before in
+    let at-write = at-room .before .before in
+    let k = at-write .before .before .before in
     let s = start k in
-    let x = g .go .last .1 .1 .1 .1 in
-    execute-accepted (now (s .args .sheet)) (lentMemory s) (s .args .fuel) (bytes k) (count k) (checked k)
-    (g .go .result) (lent (x .0) (x .1 .0) (x .1 .1 .0) (x .1 .1 .1 .0) (x .1 .1 .1 .1 .0)) (load .load .last .1 .0) (load .load .ensures .1)
-    (g .go .ensures
-    ∙ ap (λ n. loopOf (count k) n (load .load .last .1 .0) (s .args .fuel) 0 started
-    (lent (now (s .args .stack)) (now (s .args .values)) (now (s .args .labels)) (now (s .args .numbers)) (now (s .args .marks))))
-    (small .smaller .ensures))
+    let m = lentMemory s in
+    let x = at-go .accepted .last .1 .1 .1 .1 in
+    let written =
+    at-write .write .ensures ∙ written-accepted (now (s .args .sheet)) (commands k) (now (s .args .program)) (fine k .decoded) (fine k .program) in
+    loop-whole (now (s .args .sheet)) m (s .args .fuel) noneOwn (bytes k) (commands k) (fine k) standardRuler (fixed standard)
+    standard-follows (λ u. standard-range) tt (count k) (same-count k) (at-write .write .last .1 .0) written
+    (done (at-go .accepted .result) tt (lent (x .0) (cells (x .1 .0) (x .1 .1 .0))) (output (x .1 .1 .1 .0) (x .1 .1 .1 .1 .0)))
+    (rw (at-room .room .ensures) at (at-go .accepted .ensures))
+    ∙ sym (ap (λ d. engineOf (fixed standard) d tt m (s .args .fuel)) (accepts k))
 
 pub execute-spec : {M : Type 1} → statement M
 execute-spec =
     tie.close
     (tie.spec
-    check-requires
-    enum-known-checked
-    enum-known-checked-2
-    load-requires
-    smaller-requires
-    go-requires
-    same-length
+    (λ c κs. search needs)
+    (λ c κs. search needs)
+    (λ c. search needs)
+    (λ c. search needs)
+    (λ c κs. search needs)
+    (λ c κs. search needs)
+    accepted-requires
+    (λ c. search needs)
     returns
-    same-length-2
-    same-length-3
-    same-length-4
-    same-length-5
-    same-length-6
-    same-length-7
+    (λ c. search needs)
+    (λ c. search needs)
+    (λ c. search needs)
+    (λ c. search needs)
+    (λ c. search needs)
+    (λ c. search needs)
     returns-2)

@@ -24,12 +24,6 @@ returns c =
     let l = c .before .before in
     invariant-limit (now (l .before .before .args .bytes)) (l .loop .at) (l .loop .count) (l .loop .inv) (c .before .loop-test .taken) (c .if1 .taken)
 
-fetch-requires : tie.Need-fetch-requires Inv-loop μ-loop
-fetch-requires c κs = search needs
-
-enum-known-fetched : tie.Need-enum-known-fetched Inv-loop μ-loop
-enum-known-fetched c = search needs
-
 add-count : tie.Need-add-count Inv-loop μ-loop
 add-count c = omega (arith, c .before .before .before .before .before .before .loop .inv .few)
 
@@ -52,18 +46,12 @@ loop-again c =
     invariant-next (now (l .before .before .args .bytes)) (l .loop .at) (l .loop .count) (l .loop .inv) (t .before .before .loop-test .taken)
     (t .before .if1 .left) (c .before .fetched .given .0 .0) (c .before .fetched .given .0 .1 .0) (sym (t .fetch .ensures) ∙ c .before .fetched .given .1)
 
-enum-told : tie.Need-enum-told Inv-loop μ-loop
-enum-told c = search needs
-
 returns-2 : tie.Need-returns-2 Inv-loop μ-loop
 returns-2 c =
     let t = c .before .before in
     let l = t .before .before .before in
     invariant-unknown (now (l .before .before .args .bytes)) (l .loop .at) (l .loop .count) (l .loop .inv) (t .before .before .loop-test .taken)
     (t .before .if1 .left) (sym (t .fetch .ensures) ∙ c .enum-told .given .1)
-
-enum-told-2 : tie.Need-enum-told-2 Inv-loop μ-loop
-enum-told-2 c = search needs
 
 returns-3 : tie.Need-returns-3 Inv-loop μ-loop
 returns-3 c =
@@ -85,13 +73,13 @@ check-spec =
     μ-loop
     loop-holds
     returns
-    fetch-requires
-    enum-known-fetched
+    (λ c κs. search needs)
+    (λ c. search needs)
     add-count
     loop-less
     loop-again
-    enum-told
+    (λ c. search needs)
     returns-2
-    enum-told-2
+    (λ c. search needs)
     returns-3
     returns-4)

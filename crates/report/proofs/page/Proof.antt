@@ -11,12 +11,6 @@ returns c =
     let a = c .before .before .before .args in
     page-short (now (a .job)) (now (a .out)) (c .if1 .taken)
 
-write-requires : tie.Need-write-requires
-write-requires c κs = search needs
-
-same-length : tie.Need-same-length
-same-length c = search needs
-
 returns-2 : tie.Need-returns-2
 returns-2 c =
     let done = c .before .before in
@@ -25,4 +19,4 @@ returns-2 c =
     page-written (now (a .job)) (now (a .out)) (test .if1 .left) (done .write .result) (done .write .last .1 .0) (done .write .ensures)
 
 pub page-spec : {M : Type 1} → statement M
-page-spec = tie.close (tie.spec returns write-requires same-length returns-2)
+page-spec = tie.close (tie.spec returns (λ c κs. search needs) (λ c. search needs) returns-2)

@@ -10,30 +10,6 @@ use borrow.Author.Needs.{needs}
 use Rattle.report.proofs.write.Statement.{statement}
 use Rattle.report.proofs.write.Tie as tie
 
-slice-aggregate-read : tie.Need-slice-aggregate-read
-slice-aggregate-read c = search needs
-
-slice-aggregate-read-2 : tie.Need-slice-aggregate-read-2
-slice-aggregate-read-2 c = search needs
-
-read-requires : tie.Need-read-requires
-read-requires c κs = search needs
-
-enum-known-answer : tie.Need-enum-known-answer
-enum-known-answer c = search needs
-
-bad-job-requires : tie.Need-bad-job-requires
-bad-job-requires c κs = search needs
-
-enum-known-answer-2 : tie.Need-enum-known-answer-2
-enum-known-answer-2 c = search needs
-
-slice-aggregate-on-cells : tie.Need-slice-aggregate-on-cells
-slice-aggregate-on-cells c = search needs
-
-slice-aggregate-on-cells-2 : tie.Need-slice-aggregate-on-cells-2
-slice-aggregate-on-cells-2 c = search needs
-
 on-cells-requires : tie.Need-on-cells-requires
 on-cells-requires c κs =
     let said = c .before .before .before .before in
@@ -48,9 +24,6 @@ on-cells-requires c κs =
       start .pre,
     )
 
-same-length : tie.Need-same-length
-same-length c = search needs
-
 returns : tie.Need-returns
 returns c =
     let done = c .before .before in
@@ -59,9 +32,6 @@ returns c =
     let a = read .before .before .before .before .before .args in
     page-bad (now (a .job)) (now (a .out)) (done .bad-job .result) (done .bad-job .last .1 .0) (offset .answer .given .0 .0)
     (sym (offset .answer .given .1) ∙ read .read .ensures .0) (done .bad-job .ensures)
-
-same-length-2 : tie.Need-same-length-2
-same-length-2 c = search needs
 
 returns-2 : tie.Need-returns-2
 returns-2 c =
@@ -77,16 +47,16 @@ pub write-spec : {M : Type 1} → statement M
 write-spec =
     tie.close
     (tie.spec
-    slice-aggregate-read
-    slice-aggregate-read-2
-    read-requires
-    enum-known-answer
-    bad-job-requires
-    enum-known-answer-2
-    slice-aggregate-on-cells
-    slice-aggregate-on-cells-2
+    (λ c. search needs)
+    (λ c. search needs)
+    (λ c κs. search needs)
+    (λ c. search needs)
+    (λ c κs. search needs)
+    (λ c. search needs)
+    (λ c. search needs)
+    (λ c. search needs)
     on-cells-requires
-    same-length
+    (λ c. search needs)
     returns
-    same-length-2
+    (λ c. search needs)
     returns-2)

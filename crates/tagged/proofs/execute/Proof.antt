@@ -1,173 +1,159 @@
 -- `tagged::execute` meets its contract: refused, nothing is written; accepted, the loop's run is the tag engine's.
 -- Assumes nothing.
 use native.Mathlib.Omega.{arith}
-use mathlib.Core.Path.{_≡_, _∙_, sym, ap}
+use mathlib.Core.Path.{_≡_, sym, ap, _∙_}
 use mathlib.Core.List.{List}
-use Prim.Native.Nat.{ℕ, _*_, _≤_}
+use Prim.Native.Nat.{ℕ, _≤_}
 use denote.Ref.{now}
 use lib.IntN.{ℤ}
 use lib.ListN.{length}
-use Rattle.program.specs.declared.Checked.the-variants as Checked
+use Rattle.program.specs.declared.Command.{Command}
+use Rattle.program.specs.Decode.{Decoded, accepted, checkAnswer}
 use Rattle.program.proofs.Encoding.{Bytes}
+use Rattle.program.proofs.Loading.{written-accepted}
+use Rattle.stack.specs.Words.{started}
+use Rattle.step.specs.Lent.{cells, lent}
+use Rattle.engine.specs.Memory.{output, Memory, memory}
+use Rattle.engine.specs.Start.{given, startOf}
+use Rattle.engine.specs.Loop.{done, loopOf}
+use Rattle.engine.proofs.Accepted.{taken, few}
 use Rattle.policy.specs.Expression.{Table}
-use Rattle.policy.specs.Read.{readTable, table}
-use Rattle.step.specs.Words.{started}
-use Rattle.step.specs.Lent.{Lent, lent}
-use Rattle.handler.specs.Space.{handleSpace}
+use Rattle.policy.specs.Read.{readTable}
 use Rattle.handler.specs.Translate.{translate}
-use Rattle.translator.specs.Translated.{Translation}
-use Rattle.plain.specs.Plain.{Memory, memory}
-use Rattle.tagged.specs.Start.{startOf, startAnswer}
-use Rattle.tagged.specs.Loop.{doneOf, loopOf}
-use Rattle.tagged.specs.Tagged.{tagOf}
-use Rattle.tagged.proofs.Starting.{translated-space, translated-count}
-use Rattle.tagged.proofs.Accepted.{execute-refused, execute-accepted, count-few, handler-few, table-read, ready}
+use Rattle.handler.specs.Space.{handleSpace}
+use Rattle.translator.specs.Measure.{measureOf}
+use Rattle.translator.proofs.Translating.{written-table}
+use Rattle.tagging.specs.Consult.{tag}
+use Rattle.tagged.specs.Ruling.{tagWords}
+use Rattle.tagged.specs.Tagged.{tagOf, startTagged}
+use Rattle.tagged.specs.Start.{sizeOf}
+use Rattle.tagged.proofs.Accepted.{Ready, start-ready, handler-few, execute-refused, execute-accepted}
 use borrow.Author.Needs.{needs}
 use Rattle.tagged.proofs.execute.Statement.{statement}
 use Rattle.tagged.proofs.execute.Tie as tie
 
--- the lent runs that both engines have, as they came
-abbrev lentMemory : tie.Start → Memory
-lentMemory s =
-    memory (now (s .args .values)) (now (s .args .labels)) (now (s .args .program)) (now (s .args .stack)) (now (s .args .numbers)) (now (s .args .marks))
-
--- an accepted start
-module _ (k : tie.After-checked2) where
+-- the checks were made
+module _ (k : tie.After-check) where
   abbrev start : tie.Start
-  start = k .before .before .before .before .before .before
+  start = k .before .before .before .before .before .before .before
+
+  abbrev sheet : List ℕ
+  sheet = now (start .args .sheet)
+
+  abbrev rules : List ℕ
+  rules = now (start .args .table)
+
+  abbrev row : List ℤ
+  row = start .args .cache .words
+
+  abbrev space : List ℤ
+  space = now (start .args .handler)
+
+  abbrev fuel : ℕ
+  fuel = start .args .fuel
+
+  -- the lent runs as they came
+  abbrev runs : Memory
+  runs =
+      memory (now (start .args .program)) (lent (now (start .args .stack)) (cells (now (start .args .values)) (now (start .args .labels))))
+      (output (now (start .args .numbers)) (now (start .args .line-labels)))
+
+  octets : Bytes sheet
+  octets i = omega (arith, k .before .before .before .before .before .before .shared-slice-known .given i)
+
+  abbrev answered : Decoded
+  answered = startTagged sheet (readTable rules) row runs space fuel
+
+  checked : k .check .result ≡ checkAnswer answered
+  checked =
+      k .check .ensures
+      ∙ ap (λ own. checkAnswer (startOf sheet (runs .lent .cells .labels) (given runs fuel) own)) (k .before .before .own .ensures)
+
+-- and all were kept
+module _ (a : tie.After-checked2) where
+  abbrev kept : tie.After-check
+  kept = a .before .before
 
   abbrev count : ℕ
-  count = k .checked2 .given .0 .0
+  count = a .checked2 .given .0 .0
 
-  answered : Checked.Accepted count
-      ≡ startAnswer (startOf (now (start .args .sheet)) (now (start .args .table)) (start .args .cache .words) (length (now (start .args .values)))
-      (now (start .args .labels)) (length (now (start .args .program))) (length (now (start .args .stack))) (length (now (start .args .handler))) (start .args .fuel))
-  answered = sym (k .checked2 .given .1) ∙ k .before .before .check .ensures
+  -- the program
+  program : (cs : List Command) × (answered kept ≡ accepted cs) × (count ≡ length cs)
+  program = taken (sheet kept) (runs kept) (fuel kept) _ count (sym (a .checked2 .given .1) ∙ checked kept)
 
-  -- the table, its handler, and what is known of the start
-  abbrev rules : Table
-  rules = table-read (now (start .args .sheet)) (now (start .args .table)) (start .args .cache .words) (lentMemory start) (now (start .args .handler)) (start .args .fuel) count answered .0
+  -- the table, and what is known of the start
+  table : (t : Table) × Ready (sheet kept) (rules kept) (row kept) (runs kept) (space kept) (fuel kept) (program .0) t
+  table = start-ready (sheet kept) (rules kept) (row kept) (runs kept) (space kept) (fuel kept) (program .0) (program .1)
 
-  read : readTable (now (start .args .table)) ≡ table rules
-  read = table-read (now (start .args .sheet)) (now (start .args .table)) (start .args .cache .words) (lentMemory start) (now (start .args .handler)) (start .args .fuel) count answered .1
+  size-is : kept .before .before .before .size .result ≡ length (translate (table .0))
+  size-is =
+      kept .before .before .before .size .ensures ∙ ap sizeOf (kept .before .before .before .before .measure .ensures)
+      ∙ ap (λ q. sizeOf (measureOf q)) (table .1 .rules)
 
-  size-few : length (translate rules) ≤ 8192
-  size-few = handler-few (now (start .args .sheet)) (now (start .args .table)) (start .args .cache .words) (lentMemory start) (now (start .args .handler)) (start .args .fuel) count answered rules read
-
-  fuel-few : start .args .fuel ≤ 1000000
-  fuel-few = ready (now (start .args .sheet)) (now (start .args .table)) (start .args .cache .words) (lentMemory start) (now (start .args .handler)) (start .args .fuel) count answered rules read .allowance
-
-  fits : 2 * length (translate rules) ≤ length (now (start .args .handler))
-  fits = ready (now (start .args .sheet)) (now (start .args .table)) (start .args .cache .words) (lentMemory start) (now (start .args .handler)) (start .args .fuel) count answered rules read .fits
-
-  octets : Bytes (now (start .args .sheet))
-  octets i = omega (arith, k .before .before .before .before .before .shared-slice-known .given i)
-
-  commands-few : count ≤ 4096
-  commands-few = count-few (now (start .args .sheet)) (now (start .args .table)) (start .args .cache .words) (lentMemory start) (now (start .args .handler)) (start .args .fuel) count answered octets
-
-at-most : {x y n : ℕ} → x ≡ y → y ≤ n → x ≤ n
-at-most e h = rw e h
-
-check-requires : tie.Need-check-requires
-check-requires c κs = search needs
-
-enum-known-checked : tie.Need-enum-known-checked
-enum-known-checked c = search needs
-
-enum-known-checked-2 : tie.Need-enum-known-checked-2
-enum-known-checked-2 c = search needs
-
-load-requires : tie.Need-load-requires
-load-requires c κs = search needs
-
-translate-requires : tie.Need-translate-requires
-translate-requires c κs = search needs
-
-count-requires : tie.Need-count-requires
-count-requires c κs = search needs
-
-smaller-requires : tie.Need-smaller-requires
-smaller-requires c κs = search needs
+own-requires : tie.Need-own-requires
+own-requires c κs = c .before .measure .ensures
 
 go-requires : tie.Need-go-requires
 go-requires c κs =
-    let k = c .before .before .before .before .before .before .before .before .before .before .before .before .before .before .before .before in (
-      commands-few k,
-      at-most (translated-count _ (rules k) _ (read k) (c .before .before .before .before .before .before .before .before .count .ensures)) (size-few k),
-      fuel-few k,
-    )
-
-same-length : tie.Need-same-length
-same-length c = search needs
+    let a = c .before .before .before .before .before .before .before .before .before .before .before .before .before .before .before in
+    let k = kept a in
+    let t = table a in
+    let n = program a .2 in
+    let few-commands : length (program a .0) ≤ 4096 = few (sheet k) (runs k) (fuel k) _ (octets k) (program a .0) (t .1 .fine) in
+    let few-words : length (translate (t .0)) ≤ 8192 = handler-few (rules k) (t .0) (t .1 .rules) in
+    (rw n few-commands, rw (size-is a) few-words, t .1 .fine .allowance)
 
 returns : tie.Need-returns
 returns c =
-    let k = c .before in
-    let s = k .before .before .before .before .before .before in
-    execute-refused (now (s .args .sheet)) (now (s .args .table)) (s .args .cache .words) (lentMemory s) (now (s .args .handler)) (s .args .fuel)
-    (k .checked .given .0 .0) (sym (k .checked .given .1) ∙ k .before .before .check .ensures)
-
-same-length-2 : tie.Need-same-length-2
-same-length-2 c = search needs
-
-same-length-3 : tie.Need-same-length-3
-same-length-3 c = search needs
-
-same-length-4 : tie.Need-same-length-4
-same-length-4 c = c .before .before .before .before .before .before .before .before .before .before .before .before .before .before .before .before .before .before .before .before .before .load .kept .1 .0
-
-same-length-5 : tie.Need-same-length-5
-same-length-5 c = search needs
-
-same-length-6 : tie.Need-same-length-6
-same-length-6 c = search needs
-
-same-length-7 : tie.Need-same-length-7
-same-length-7 c = search needs
-
-same-length-8 : tie.Need-same-length-8
-same-length-8 c = search needs
+    let k = c .before .before .before in
+    execute-refused (sheet k) (rules k) (row k) (runs k) (space k) (fuel k) (c .before .checked .given .0 .0)
+    (sym (c .before .checked .given .1) ∙ checked k)
 
 returns-2 : tie.Need-returns-2
 returns-2 c =
     let g = c .before .before .before .before .before .before .before in
-    let small = c .before .before .before .before .before .before .before .before .before .before .before .before .before .before .before in
-    let sized = c .before .before .before .before .before .before .before .before .before .before .before .before .before .before .before .before in
-    let written = c .before .before .before .before .before .before .before .before .before .before .before .before .before .before .before .before .before .before in
-    let load = c .before .before .before .before .before .before .before .before .before .before .before .before .before .before .before .before .before .before .before .before .before in
-    let k = c .before .before .before .before .before .before .before .before .before .before .before .before .before .before .before .before .before .before .before .before .before .before .before .before in
-    let s = start k in
-    let space = written .translate .last .1 .0 in
-    execute-accepted (now (s .args .sheet)) (now (s .args .table)) (s .args .cache .words) (lentMemory s) (now (s .args .handler)) (s .args .fuel)
-    (count k) (answered k) (rules k) (read k) (octets k) (load .load .last .1 .0) space (sized .count .result)
-    (load .load .ensures .1)
-    (ap (λ (x : Translation). x .space) (written .translate .ensures) ∙ translated-space _ (rules k) _ (read k) (fits k))
-    (translated-count _ (rules k) _ (read k) (sized .count .ensures))
-    (doneOf (g .go .result .ran) (g .go .result .cache .words) (lent (g .go .last .1 .1 .1 .1 .1 .1 .1 .0) (g .go .last .1 .1 .1 .1 .1 .1 .1 .1 .0) (g .go .last .1 .1 .1 .1 .1 .1 .1 .1 .1 .0) (g .go .last .1 .1 .1 .1 .1 .1 .1 .1 .1 .1 .0) (g .go .last .1 .1 .1 .1 .1 .1 .1 .1 .1 .1 .1 .0)))
+    let roomy = g .before .before .before .before .before .before .before .before in
+    let written = roomy .before .before in
+    let load = written .before .before .before in
+    let a = load .before .before .before in
+    let k = kept a in
+    let t = table a in
+    let loaded = load .write .last .1 .0 in
+    let handled = written .write2 .last .1 .0 in
+    let size = k .before .before .before .size .result in
+    let x = g .go .last .1 .1 .1 .1 .1 .1 .1 in
+    let y = x .1 .1 .1 in
+    let r = g .go .result in
+    let ω = tagWords (handleSpace handled size) in
+    execute-accepted (sheet k) (rules k) (row k) (runs k) (space k) (fuel k) (octets k) (program a .0) (program a .1) (t .0) (t .1)
+    (count a) (program a .2) loaded handled size
+    (load .write .ensures ∙ written-accepted (sheet k) (program a .0) _ (t .1 .fine .decoded) (t .1 .fine .program))
+    (written .write2 .ensures ∙ written-table (rules k) (t .0) _ (t .1 .rules) (t .1 .fits)) (size-is a)
+    (done (r .ran) (tag (r .cache .words) (r .faults) (r .kernel)) (lent (x .0) (cells (x .1 .0) (x .1 .1 .0))) (output (y .0) (y .1 .0)))
     (g .go .ensures
-    ∙ ap (λ n. loopOf (handleSpace space (sized .count .result)) (count k) n (load .load .last .1 .0) (s .args .fuel) 0 started (tagOf (s .args .cache .words))
-    (lent (now (s .args .stack)) (now (s .args .values)) (now (s .args .labels)) (now (s .args .numbers)) (now (s .args .marks)))) (small .smaller .ensures))
+    ∙ ap (λ n. loopOf ω (count a) n loaded (fuel k) 0 started (tagOf (row k)) (runs k .lent) (runs k .output)) (roomy .room .ensures))
 
 pub execute-spec : {M : Type 1} → statement M
 execute-spec =
     tie.close
     (tie.spec
-    check-requires
-    enum-known-checked
-    enum-known-checked-2
-    load-requires
-    translate-requires
-    count-requires
-    smaller-requires
+    (λ c κs. search needs)
+    (λ c κs. search needs)
+    own-requires
+    (λ c κs. search needs)
+    (λ c. search needs)
+    (λ c. search needs)
+    (λ c κs. search needs)
+    (λ c κs. search needs)
+    (λ c κs. search needs)
     go-requires
-    same-length
+    (λ c. search needs)
     returns
-    same-length-2
-    same-length-3
-    same-length-4
-    same-length-5
-    same-length-6
-    same-length-7
-    same-length-8
+    (λ c. search needs)
+    (λ c. search needs)
+    (λ c. search needs)
+    (λ c. search needs)
+    (λ c. search needs)
+    (λ c. search needs)
+    (λ c. search needs)
     returns-2)

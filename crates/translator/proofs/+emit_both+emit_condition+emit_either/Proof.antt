@@ -10,10 +10,11 @@ use mir.Facts.{toZ-pos}
 use borrow.Author.Needs.{needs}
 use borrow.Fn.Kinds.{In}
 use borrow.Fn.PlainCycle.{Measures, is, falls, and}
-use Rattle.policy.specs.declared.expression.Test.{Test}
-use Rattle.policy.specs.Value.{testOf}
+use Rattle.tables.specs.declared.expression.Test.{Test}
+use Rattle.tables.specs.Value.{testOf}
 use Rattle.translator.specs.Emit.{labelCode, conditionPiece, conditionCode}
 use Rattle.translator.proofs.Pieces.{condition-deep, condition-missing, condition-first, pow-pred, pow-pos}
+use Rattle.handler.specs.Space.{kernelWords}
 use Rattle.translator.proofs.Emitting.{emits-nothing, emits-zero, emits-join, emits-either, condition-room}
 use Rattle.translator.proofs.emit_both.Reads as emit-both
 use Rattle.translator.proofs.emit_both.Kinds as emit-both-kinds
@@ -26,8 +27,8 @@ use Rattle.translator.proofs.emit_either.Kinds as emit-either-kinds
 use Rattle.translator.proofs.+emit_both+emit_condition+emit_either.Lts-emit_either as emit-either-lts
 use Rattle.translator.proofs.emit.Reads as emit
 use Rattle.translator.proofs.emit_flows.Reads as emit-flows
-use Rattle.policy.proofs.expression.test_of.Reads as test-of
-use Rattle.policy.proofs.expression.token_of.Reads as token-of
+use Rattle.tables.proofs.expression.test_of.Reads as test-of
+use Rattle.policy.proofs.token_of.Reads as token-of
 use Rattle.translator.proofs.+emit_both+emit_condition+emit_either.{statement}
 use Rattle.translator.proofs.+emit_both+emit_condition+emit_either.Tie.{close}
 
@@ -141,6 +142,7 @@ module _ (t : ℕ)
   over = omega (arith, room-either)
 
 pub +emit-both+emit-condition+emit-either-spec : {M : Type 1} → statement M
+unfolding kernelWords
 +emit-both+emit-condition+emit-either-spec =
     close μ-emit-both μ-emit-condition μ-emit-either
     (λ t.

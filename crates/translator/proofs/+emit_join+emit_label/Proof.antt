@@ -13,6 +13,7 @@ use Rattle.translator.specs.declared.Part.{Part}
 use Rattle.translator.specs.declared.Part.the-variants as Part
 use Rattle.translator.specs.Emit.{partOf, labelPiece, labelCode}
 use Rattle.translator.proofs.Pieces.{label-deep, label-missing, label-first, pow-pred, word-few}
+use Rattle.handler.specs.Space.{kernelWords}
 use Rattle.translator.proofs.Emitting.{emits-nothing, emits-zero, emits-read, emits-join, label-room}
 use Rattle.translator.proofs.emit_join.Reads as emit-join
 use Rattle.translator.proofs.emit_join.Kinds as emit-join-kinds
@@ -22,7 +23,7 @@ use Rattle.translator.proofs.emit_label.Kinds as emit-label-kinds
 use Rattle.translator.proofs.+emit_join+emit_label.Lts-emit_label as emit-label-lts
 use Rattle.translator.proofs.emit.Reads as emit
 use Rattle.translator.proofs.part_of.Reads as part-of
-use Rattle.policy.proofs.expression.token_of.Reads as token-of
+use Rattle.policy.proofs.token_of.Reads as token-of
 use Rattle.translator.proofs.+emit_join+emit_label.{statement}
 use Rattle.translator.proofs.+emit_join+emit_label.Tie.{close}
 
@@ -80,6 +81,7 @@ module _ (t : ℕ)
   room = omega (arith, head .pre .1, label-room _ _ _ (l1 .emit-label .ensures), label-room _ _ _ (l2 .emit-label2 .ensures))
 
 pub +emit-join+emit-label-spec : {M : Type 1} → statement M
+unfolding kernelWords
 +emit-join+emit-label-spec =
     close μ-emit-join μ-emit-label
     (λ t.

@@ -13,7 +13,7 @@ use Rattle.translator.proofs.skip_label.Reads as skip-label
 use Rattle.translator.proofs.skip_label.Kinds as skip-label-kinds
 use Rattle.translator.proofs.+skip_label.Lts-skip_label as skip-label-lts
 use Rattle.translator.proofs.part_of.Reads as part-of
-use Rattle.policy.proofs.expression.token_of.Reads as token-of
+use Rattle.policy.proofs.token_of.Reads as token-of
 use Rattle.translator.proofs.+skip_label.{statement}
 use Rattle.translator.proofs.+skip_label.Tie.{close}
 

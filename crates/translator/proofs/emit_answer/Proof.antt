@@ -5,6 +5,7 @@ use native.Mathlib.Omega.{arith}
 use denote.Ref.{now}
 use borrow.Author.Needs.{needs}
 use Rattle.translator.specs.Emit.{labelCode, answerCode}
+use Rattle.handler.specs.Space.{kernelWords}
 use Rattle.translator.proofs.Emitting.{emits-answer, label-room}
 use Rattle.translator.proofs.emit_answer.Statement.{statement}
 use Rattle.translator.proofs.emit_answer.Tie as tie
@@ -17,16 +18,10 @@ module _ (l2 : tie.After-emit-label2) where
   room : l2 .emit-label2 .result .position + 5 ≤ begin .args .mark .position + 2048
   room = omega (arith, label-room _ _ _ (l2 .before .before .before .emit-label .ensures), label-room _ _ _ (l2 .emit-label2 .ensures))
 
-emit-label-requires : tie.Need-emit-label-requires
-emit-label-requires c κs = search needs
-
 emit-label-requires-2 : tie.Need-emit-label-requires-2
 emit-label-requires-2 c κs =
     let s = c .before .before .before .before .before in
     omega (arith, s .pre, label-room _ _ _ (c .before .before .emit-label .ensures))
-
-slice-aggregate-emit : tie.Need-slice-aggregate-emit
-slice-aggregate-emit c = search needs
 
 emit-requires : tie.Need-emit-requires
 emit-requires c κs = let l2 = c .before .before .before in (omega (arith, room l2, begin l2 .pre), omega arith)
@@ -34,11 +29,8 @@ emit-requires c κs = let l2 = c .before .before .before in (omega (arith, room 
 add-t17 : tie.Need-add-t17
 add-t17 c = let l2 = c .before .before .before .before .before in record { fits = omega (arith, room l2, begin l2 .pre) }
 
-same-length : tie.Need-same-length
-same-length c = search needs
-
 returns : tie.Need-returns
-unfolding answerCode
+unfolding answerCode kernelWords
 returns c =
     let l2 = c .before .before .before .before .before in
     let l1 = l2 .before .before .before in
@@ -50,10 +42,10 @@ pub emit-answer-spec : {M : Type 1} → statement M
 emit-answer-spec =
     tie.close
     (tie.spec
-    emit-label-requires
+    (λ c κs. search needs)
     emit-label-requires-2
-    slice-aggregate-emit
+    (λ c. search needs)
     emit-requires
     add-t17
-    same-length
+    (λ c. search needs)
     returns)

@@ -5,6 +5,7 @@ use native.Mathlib.Omega.{arith}
 use denote.Ref.{now}
 use borrow.Author.Needs.{needs}
 use Rattle.translator.specs.Emit.{labelCode}
+use Rattle.handler.specs.Space.{kernelWords}
 use Rattle.translator.proofs.Emitting.{emits-flows, label-room}
 use Rattle.translator.proofs.emit_flows.Statement.{statement}
 use Rattle.translator.proofs.emit_flows.Tie as tie
@@ -25,15 +26,6 @@ module _ (l2 : tie.After-emit-label2) where
   room2 : l2 .emit-label2 .result .position + 1 ≤ begin l1 .args .mark .position + 6 * 2 ^ begin l1 .args .depth
   room2 = omega (arith, room1 l1, label-room _ _ _ (l2 .emit-label2 .ensures))
 
-skip-label-requires : tie.Need-skip-label-requires
-skip-label-requires c κs = search needs
-
-emit-label-requires : tie.Need-emit-label-requires
-emit-label-requires c κs = search needs
-
-slice-aggregate-emit : tie.Need-slice-aggregate-emit
-slice-aggregate-emit c = search needs
-
 emit-requires : tie.Need-emit-requires
 emit-requires c κs = let l = c .before .before .before in (omega (arith, room1 l, begin l .pre), omega arith)
 
@@ -43,19 +35,14 @@ add-behind c = let l = c .before .before .before .before .before in record { fit
 emit-label-requires-2 : tie.Need-emit-label-requires-2
 emit-label-requires-2 c κs = let l = c .before .before .before .before .before .before in omega (arith, room1 l, begin l .pre)
 
-slice-aggregate-emit-2 : tie.Need-slice-aggregate-emit-2
-slice-aggregate-emit-2 c = search needs
-
 emit-requires-2 : tie.Need-emit-requires-2
 emit-requires-2 c κs = let l = c .before .before .before in (omega (arith, room2 l, begin (l1 l) .pre), omega arith)
 
 add-end : tie.Need-add-end
 add-end c = let l = c .before .before .before .before .before in record { fits = omega (arith, room2 l, begin (l1 l) .pre) }
 
-same-length : tie.Need-same-length
-same-length c = search needs
-
 returns : tie.Need-returns
+unfolding kernelWords
 returns c =
     let l = c .before .before .before .before .before in
     let f = l1 l in
@@ -67,14 +54,14 @@ pub emit-flows-spec : {M : Type 1} → statement M
 emit-flows-spec =
     tie.close
     (tie.spec
-    skip-label-requires
-    emit-label-requires
-    slice-aggregate-emit
+    (λ c κs. search needs)
+    (λ c κs. search needs)
+    (λ c. search needs)
     emit-requires
     add-behind
     emit-label-requires-2
-    slice-aggregate-emit-2
+    (λ c. search needs)
     emit-requires-2
     add-end
-    same-length
+    (λ c. search needs)
     returns)

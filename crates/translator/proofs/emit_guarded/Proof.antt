@@ -7,6 +7,7 @@ use mir.Syntax.{w64}
 use mir.Facts.{toZ-pos}
 use borrow.Author.Needs.{needs}
 use Rattle.translator.specs.Emit.{conditionCode, answerCode, guardedCode}
+use Rattle.handler.specs.Space.{kernelWords}
 use Rattle.translator.proofs.Emitting.{emits-guarded, condition-room, answer-room}
 use Rattle.translator.proofs.emit_guarded.Statement.{statement}
 use Rattle.translator.proofs.emit_guarded.Tie as tie
@@ -30,29 +31,17 @@ module _ (l2 : tie.After-emit-answer) where
   over : l2 .emit-answer .result .position - l1 .emit-condition .result .position < 2 ^ 63
   over = omega (arith, room, begin l1 .pre)
 
-emit-condition-requires : tie.Need-emit-condition-requires
-emit-condition-requires c κs = search needs
-
 add-t14 : tie.Need-add-t14
 add-t14 c = record { fits = omega (arith, near (c .before), begin (c .before) .pre) }
 
 emit-answer-requires : tie.Need-emit-answer-requires
 emit-answer-requires c κs = let l = c .before .before in omega (arith, near l, begin l .pre)
 
-sub-over : tie.Need-sub-over
-sub-over c = search needs
-
 cast-t17 : tie.Need-cast-t17
 cast-t17 c = record { sfits = over (c .before) }
 
-slice-aggregate-emit : tie.Need-slice-aggregate-emit
-slice-aggregate-emit c = search needs
-
 emit-requires : tie.Need-emit-requires
 emit-requires c κs = let l = c .before .before .before .before .before .before in (omega (arith, near l, begin l .pre), omega arith)
-
-slice-aggregate-emit-2 : tie.Need-slice-aggregate-emit-2
-slice-aggregate-emit-2 c = search needs
 
 emit-requires-2 : tie.Need-emit-requires-2
 emit-requires-2 c κs =
@@ -64,11 +53,8 @@ add-t14-2 c =
     let l = c .before .before .before .before .before .before .before .before .before in
     record { fits = omega (arith, room l, begin (l1 l) .pre) }
 
-same-length : tie.Need-same-length
-same-length c = search needs
-
 returns : tie.Need-returns
-unfolding guardedCode
+unfolding guardedCode kernelWords
 returns c =
     let branch = c .before .before .before .before .before in
     let l = branch .before .before .before .before in
@@ -81,15 +67,15 @@ pub emit-guarded-spec : {M : Type 1} → statement M
 emit-guarded-spec =
     tie.close
     (tie.spec
-    emit-condition-requires
+    (λ c κs. search needs)
     add-t14
     emit-answer-requires
-    sub-over
+    (λ c. search needs)
     cast-t17
-    slice-aggregate-emit
+    (λ c. search needs)
     emit-requires
-    slice-aggregate-emit-2
+    (λ c. search needs)
     emit-requires-2
     add-t14-2
-    same-length
+    (λ c. search needs)
     returns)

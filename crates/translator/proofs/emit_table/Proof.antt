@@ -6,6 +6,8 @@ use native.Mathlib.Omega.{arith}
 use mir.Syntax.{w64}
 use mir.Facts.{toZ-pos}
 use borrow.Author.Needs.{needs}
+use Rattle.policy.specs.Read.{ruleCount}
+use Rattle.handler.specs.Space.{kernelWords}
 use Rattle.translator.proofs.Placing.{Placing, placing-start, placing-next, placing-count, placing-written}
 use Rattle.translator.proofs.emit_table.Statement.{statement}
 use Rattle.translator.proofs.emit_table.Tie as tie
@@ -14,33 +16,21 @@ abbrev Inv-loop : tie.InvT-loop
 Inv-loop bytes space₀ mark₀ i₀ space mark i = Placing bytes space₀ i mark space
 
 abbrev μ-loop : tie.MeasureT-loop
-μ-loop bytes space₀ mark₀ i₀ space mark i = 11 - i
+μ-loop bytes space₀ mark₀ i₀ space mark i = ruleCount - i
 
 -- how far ahead a rule's instructions are of its slot
 module _ (h : tie.At-loop Inv-loop μ-loop) where
   ahead : h .loop .mark .position - (6 + h .loop .i) < 2 ^ 63
   ahead = omega (arith, h .loop .inv .few, h .loop .inv .room)
 
-slice-aggregate-emit : tie.Need-slice-aggregate-emit Inv-loop μ-loop
-slice-aggregate-emit c = search needs
-
-emit-requires : tie.Need-emit-requires Inv-loop μ-loop
-emit-requires c κs = search needs
-
 loop-holds : tie.Need-loop-holds Inv-loop μ-loop
 loop-holds c = placing-start _ _
-
-add-slot : tie.Need-add-slot Inv-loop μ-loop
-add-slot c = search needs
 
 sub-ahead : tie.Need-sub-ahead Inv-loop μ-loop
 sub-ahead c = let p = c .before .before .loop .inv in omega (arith, p .few, p .after)
 
 cast-t15 : tie.Need-cast-t15 Inv-loop μ-loop
 cast-t15 c = record { sfits = ahead (c .before .before) }
-
-slice-aggregate-emit-2 : tie.Need-slice-aggregate-emit-2 Inv-loop μ-loop
-slice-aggregate-emit-2 c = search needs
 
 emit-requires-2 : tie.Need-emit-requires-2 Inv-loop μ-loop
 emit-requires-2 c κs = (omega (arith, c .before .before .before .before .loop .inv .few), omega arith)
@@ -50,13 +40,11 @@ emit-rule-requires c κs =
     let p = c .before .before .before .before .before .before .before .loop .inv in
     omega (arith, p .few, p .room)
 
-add-i : tie.Need-add-i Inv-loop μ-loop
-add-i c = search needs
-
 loop-less : tie.Need-loop-less Inv-loop μ-loop
 loop-less c = omega (arith, c .before .before .before .before .before .before .before .before .loop-test .taken)
 
 loop-again : tie.Need-loop-again Inv-loop μ-loop
+unfolding kernelWords
 loop-again c =
     let slot = c .before .before .before .before in
     let test = slot .before .before .before .before in
@@ -68,6 +56,7 @@ same-length : tie.Need-same-length Inv-loop μ-loop
 same-length c = c .before .loop .inv .size ∙ c .before .before .before .emit .kept .0
 
 returns : tie.Need-returns Inv-loop μ-loop
+unfolding kernelWords
 returns c =
     let h = c .before in (
       placing-count _ _ _ _ _ (h .loop .inv) (c .loop-test .left),
@@ -80,16 +69,16 @@ emit-table-spec =
     (tie.spec
     Inv-loop
     μ-loop
-    slice-aggregate-emit
-    emit-requires
+    (λ c. search needs)
+    (λ c κs. search needs)
     loop-holds
-    add-slot
+    (λ c. search needs)
     sub-ahead
     cast-t15
-    slice-aggregate-emit-2
+    (λ c. search needs)
     emit-requires-2
     emit-rule-requires
-    add-i
+    (λ c. search needs)
     loop-less
     loop-again
     same-length

@@ -6,12 +6,6 @@ use borrow.Author.Needs.{needs}
 use Rattle.exports.proofs.result.of_page.Statement.{statement}
 use Rattle.exports.proofs.result.of_page.Tie as tie
 
-enum-known-made : tie.Need-enum-known-made
-enum-known-made c = search needs
-
-enum-told : tie.Need-enum-told
-enum-told c = search needs
-
 returns : tie.Need-returns
 returns c = ap pageResult (sym (c .before .made .given .1))
 
@@ -19,4 +13,4 @@ returns-2 : tie.Need-returns-2
 returns-2 c = ap pageResult (sym (c .enum-told .given .1))
 
 pub of-page-spec : {M : Type 1} → statement M
-of-page-spec = tie.close (tie.spec enum-known-made enum-told returns returns-2)
+of-page-spec = tie.close (tie.spec (λ c. search needs) (λ c. search needs) returns returns-2)

@@ -44,9 +44,6 @@ at-requires c κs = tt
 set-requires-2 : tie.Need-set-requires-2 Inv-loop μ-loop
 set-requires-2 c κs = tt
 
-add-i : tie.Need-add-i Inv-loop μ-loop
-add-i c = search needs
-
 loop-less : tie.Need-loop-less Inv-loop μ-loop
 loop-less c = omega arith
 
@@ -76,7 +73,7 @@ given-spec =
     loop-holds
     at-requires
     set-requires-2
-    add-i
+    (λ c. search needs)
     loop-less
     loop-again
     returns-2)

@@ -31,9 +31,6 @@ get-requires c κs = tt
 put-requires : tie.Need-put-requires Inv-loop μ-loop
 put-requires c κs = tt
 
-add-i : tie.Need-add-i Inv-loop μ-loop
-add-i c = search needs
-
 loop-less : tie.Need-loop-less Inv-loop μ-loop
 loop-less c = omega arith
 
@@ -67,7 +64,7 @@ leave-spec =
     loop-holds
     get-requires
     put-requires
-    add-i
+    (λ c. search needs)
     loop-less
     loop-again
     same-length

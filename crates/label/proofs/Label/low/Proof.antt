@@ -6,15 +6,9 @@ use borrow.Author.Needs.{needs}
 use Rattle.label.proofs.Label.low.Statement.{statement}
 use Rattle.label.proofs.Label.low.Tie as tie
 
-to-bits-requires : tie.Need-to-bits-requires
-to-bits-requires c κs = search needs
-
-cast-t4 : tie.Need-cast-t4
-cast-t4 c = search needs
-
 returns : tie.Need-returns
 unfolding lowLabel
 returns c = rw (c .to-bits .ensures, back (c .before .fits .word))
 
 pub low-spec : {M : Type 1} → statement M
-low-spec = tie.close (tie.spec to-bits-requires cast-t4 returns)
+low-spec = tie.close (tie.spec (λ c κs. search needs) (λ c. search needs) returns)

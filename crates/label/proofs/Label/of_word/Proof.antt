@@ -7,18 +7,6 @@ use Rattle.label.specs.Word.{stored}
 use Rattle.label.proofs.Label.of_word.Statement.{statement}
 use Rattle.label.proofs.Label.of_word.Tie as tie
 
-unsigned-requires : tie.Need-unsigned-requires
-unsigned-requires c κs = search needs
-
-enum-told : tie.Need-enum-told
-enum-told c = search needs
-
-enum-known-number : tie.Need-enum-known-number
-enum-known-number c = search needs
-
-cast-t7 : tie.Need-cast-t7
-cast-t7 c = search needs
-
 returns : tie.Need-returns
 unfolding stored
 returns c =
@@ -40,4 +28,4 @@ returns-3 c =
 pub of-word-spec : {M : Type 1} → statement M
 of-word-spec =
     tie.close
-    (tie.spec unsigned-requires enum-told enum-known-number cast-t7 returns returns-2 returns-3)
+    (tie.spec (λ c κs. search needs) (λ c. search needs) (λ c. search needs) (λ c. search needs) returns returns-2 returns-3)

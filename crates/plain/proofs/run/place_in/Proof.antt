@@ -16,9 +16,6 @@ module _ (a : tie.After-to-bits) where
   bits : a .to-bits .result ≡ residue 64 (a .before .before .args .pc .0)
   bits = a .to-bits .ensures ∙ ap (residue 64) (back-ok _ fits)
 
-to-bits-requires : tie.Need-to-bits-requires
-to-bits-requires c κs = search needs
-
 returns : tie.Need-returns
 returns c = let a = c .before in rw (bits a) (bits-below _ _ (fits a) (omega (arith, a .before .before .pre)) (rw (bits a) at (c .if1 .taken)))
 
@@ -26,4 +23,4 @@ returns-2 : tie.Need-returns-2
 returns-2 c = let a = c .before in bits-above _ _ (fits a) (rw (bits a) at (c .if1 .left))
 
 pub place-in-spec : {M : Type 1} → statement M
-place-in-spec = tie.close (tie.spec to-bits-requires returns returns-2)
+place-in-spec = tie.close (tie.spec (λ c κs. search needs) returns returns-2)

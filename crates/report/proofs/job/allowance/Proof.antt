@@ -4,17 +4,8 @@ use borrow.Author.Needs.{needs}
 use Rattle.report.proofs.job.allowance.Statement.{statement}
 use Rattle.report.proofs.job.allowance.Tie as tie
 
-enum-known-field : tie.Need-enum-known-field
-enum-known-field c = search needs
-
-enum-told : tie.Need-enum-told
-enum-told c = search needs
-
 returns : tie.Need-returns
 returns c = rw (c .before .field .given .1)
 
-returns-2 : tie.Need-returns-2
-returns-2 c = search needs
-
 pub allowance-spec : {M : Type 1} → statement M
-allowance-spec = tie.close (tie.spec enum-known-field enum-told returns returns-2)
+allowance-spec = tie.close (tie.spec (λ c. search needs) (λ c. search needs) returns (λ c. search needs))

@@ -9,12 +9,6 @@ use borrow.Author.Needs.{needs}
 use Rattle.report.proofs.job.four_at.Statement.{statement}
 use Rattle.report.proofs.job.four_at.Tie as tie
 
-u32-at-requires : tie.Need-u32-at-requires
-u32-at-requires c κs = search needs
-
-enum-known-field : tie.Need-enum-known-field
-enum-known-field c = search needs
-
 cast-t6 : tie.Need-cast-t6
 cast-t6 c =
     let a = c .before .before .before .before .before .args in
@@ -22,9 +16,6 @@ cast-t6 c =
     let z = c .before .field .given .0 .0 in
     rw (back-ok z (c .known-told .given .0 .1))
     (four-fits (now (a .job)) (a .at) z (sym (c .before .before .before .u32-at .ensures) ∙ c .before .field .given .1) (λ i. bytes i .fits))
-
-enum-told : tie.Need-enum-told
-enum-told c = search needs
 
 returns : tie.Need-returns
 unfolding fourAt
@@ -37,4 +28,4 @@ returns-2 c = rw (← c .before .before .u32-at .ensures, c .enum-told .given .1
 
 pub four-at-spec : {M : Type 1} → statement M
 four-at-spec =
-    tie.close (tie.spec u32-at-requires enum-known-field cast-t6 enum-told returns returns-2)
+    tie.close (tie.spec (λ c κs. search needs) (λ c. search needs) cast-t6 (λ c. search needs) returns returns-2)

@@ -48,12 +48,6 @@ returns c = let a = c .before .before .args in answered-long (now (a .job)) (now
 loop-holds : tie.Need-loop-holds Inv-loop μ-loop
 loop-holds c = going-start _ _ _ (c .if1 .left)
 
-item-at-requires : tie.Need-item-at-requires Inv-loop μ-loop
-item-at-requires c κs = search needs
-
-enum-known-item : tie.Need-enum-known-item Inv-loop μ-loop
-enum-known-item c = search needs
-
 same-length : tie.Need-same-length Inv-loop μ-loop
 same-length c = same-values (c .before .before .before .before .before .before)
 
@@ -64,15 +58,6 @@ returns-2 : tie.Need-returns-2 Inv-loop μ-loop
 returns-2 c =
     let t = c .before .before .before .before in
     going-limit _ _ _ _ _ _ _ _ _ (head t .loop .inv) (taken t) _ _ (is t (c .before .before .item .given .1)) (c .if2 .taken)
-
-put-requires : tie.Need-put-requires Inv-loop μ-loop
-put-requires c κs = search needs
-
-cast-put : tie.Need-cast-put Inv-loop μ-loop
-cast-put c = search needs
-
-put-requires-2 : tie.Need-put-requires-2 Inv-loop μ-loop
-put-requires-2 c κs = search needs
 
 add-cells : tie.Need-add-cells Inv-loop μ-loop
 add-cells c = record { fits = omega (arith, head (c .before .before .before .before .before .before .before .before .before .before) .loop .inv .few) }
@@ -99,12 +84,6 @@ loop-again c =
     )
     (going-cell _ _ _ _ _ _ _ _ _ (head t .loop .inv) (taken t) _ _ (is t (item .given .1)) (c .before .before .before .before .before .before .if2 .left))
 
-enum-known-item-2 : tie.Need-enum-known-item-2 Inv-loop μ-loop
-enum-known-item-2 c = search needs
-
-cast-allowance : tie.Need-cast-allowance Inv-loop μ-loop
-cast-allowance c = search needs
-
 add-at-2 : tie.Need-add-at-2 Inv-loop μ-loop
 add-at-2 c = record { fits = omega (arith, head (c .before .before .before) .loop .inv .short, taken (c .before .before .before)) }
 
@@ -116,9 +95,6 @@ loop-again-2 c =
     let t = c .before .before .before in
     going-allowance _ _ _ _ _ _ _ _ _ (head t .loop .inv) (taken t) _ (is t (c .before .item2 .given .1))
 
-enum-known-item-3 : tie.Need-enum-known-item-3 Inv-loop μ-loop
-enum-known-item-3 c = search needs
-
 add-at-3 : tie.Need-add-at-3 Inv-loop μ-loop
 add-at-3 c = record { fits = omega (arith, head (c .before .before .before) .loop .inv .short, taken (c .before .before .before)) }
 
@@ -129,9 +105,6 @@ loop-again-3 : tie.Need-loop-again-3 Inv-loop μ-loop
 loop-again-3 c =
     let t = c .before .before .before in
     going-reader _ _ _ _ _ _ _ _ _ (head t .loop .inv) (taken t) _ (is t (c .before .item3 .given .1))
-
-enum-told : tie.Need-enum-told Inv-loop μ-loop
-enum-told c = search needs
 
 add-t25 : tie.Need-add-t25 Inv-loop μ-loop
 add-t25 c = record { fits = omega (arith, head (c .before .before) .loop .inv .short, taken (c .before .before)) }
@@ -146,9 +119,6 @@ returns-3 : tie.Need-returns-3 Inv-loop μ-loop
 returns-3 c =
     let t = c .before .before in
     going-sheet _ _ _ _ _ _ _ _ _ (head t .loop .inv) (taken t) (is t (c .enum-told .given .1))
-
-enum-told-2 : tie.Need-enum-told-2 Inv-loop μ-loop
-enum-told-2 c = search needs
 
 same-length-5 : tie.Need-same-length-5 Inv-loop μ-loop
 same-length-5 c = same-values (c .before .before .before .before)
@@ -178,33 +148,33 @@ read-spec =
     μ-loop
     returns
     loop-holds
-    item-at-requires
-    enum-known-item
+    (λ c κs. search needs)
+    (λ c. search needs)
     same-length
     same-length-2
     returns-2
-    put-requires
-    cast-put
-    put-requires-2
+    (λ c κs. search needs)
+    (λ c. search needs)
+    (λ c κs. search needs)
     add-cells
     add-at
     loop-less
     loop-again
-    enum-known-item-2
-    cast-allowance
+    (λ c. search needs)
+    (λ c. search needs)
     add-at-2
     loop-less-2
     loop-again-2
-    enum-known-item-3
+    (λ c. search needs)
     add-at-3
     loop-less-3
     loop-again-3
-    enum-told
+    (λ c. search needs)
     add-t25
     same-length-3
     same-length-4
     returns-3
-    enum-told-2
+    (λ c. search needs)
     same-length-5
     same-length-6
     returns-4

@@ -10,22 +10,10 @@ use borrow.Author.Needs.{needs}
 use Rattle.report.proofs.job.sheet.Statement.{statement}
 use Rattle.report.proofs.job.sheet.Tie as tie
 
-sub-result : tie.Need-sub-result
-sub-result c = search needs
-
-part-result-start : tie.Need-part-result-start
-part-result-start c = search needs
-
-part-result-end : tie.Need-part-result-end
-part-result-end c = search needs
-
 returns : tie.Need-returns
 returns c =
     let a = c .before .before .args in
     take-all (length (now (a .job)) - a .start) (drop (a .start) (now (a .job))) (simp length-drop (omega arith))
-
-slice-aggregate-result : tie.Need-slice-aggregate-result
-slice-aggregate-result c = search needs
 
 returns-2 : tie.Need-returns-2
 returns-2 c = sym (drop-of-length-le (now (c .before .before .args .job)) {i = c .before .before .args .start} (omega (arith, c .before .if1 .left)))
@@ -34,9 +22,9 @@ pub sheet-spec : {M : Type 1} → statement M
 sheet-spec =
     tie.close
     (tie.spec
-    sub-result
-    part-result-start
-    part-result-end
+    (λ c. search needs)
+    (λ c. search needs)
+    (λ c. search needs)
     returns
-    slice-aggregate-result
+    (λ c. search needs)
     returns-2)

@@ -6,18 +6,6 @@ use borrow.Author.Needs.{needs}
 use Rattle.report.proofs.print.bad_job.Statement.{statement}
 use Rattle.report.proofs.print.bad_job.Tie as tie
 
-slice-aggregate-bytes : tie.Need-slice-aggregate-bytes
-slice-aggregate-bytes c = search needs
-
-bytes-requires : tie.Need-bytes-requires
-bytes-requires c κs = search needs
-
-number-requires : tie.Need-number-requires
-number-requires c κs = search needs
-
-slice-aggregate-bytes-2 : tie.Need-slice-aggregate-bytes-2
-slice-aggregate-bytes-2 c = search needs
-
 bytes-requires-2 : tie.Need-bytes-requires-2
 bytes-requires-2 c κs =
     let offset = c .before .before .before .before in
@@ -25,9 +13,6 @@ bytes-requires-2 c κs =
     written-room 20 1 (natural-short _)
     (written-room 4 21 (omega arith) (omega (arith, word .before .before .before .before .pre)) (word .bytes .ensures))
     (offset .number .ensures)
-
-same-length : tie.Need-same-length
-same-length c = search needs
 
 returns : tie.Need-returns
 returns c =
@@ -40,10 +25,10 @@ pub bad-job-spec : {M : Type 1} → statement M
 bad-job-spec =
     tie.close
     (tie.spec
-    slice-aggregate-bytes
-    bytes-requires
-    number-requires
-    slice-aggregate-bytes-2
+    (λ c. search needs)
+    (λ c κs. search needs)
+    (λ c κs. search needs)
+    (λ c. search needs)
     bytes-requires-2
-    same-length
+    (λ c. search needs)
     returns)

@@ -8,15 +8,6 @@ use borrow.Author.Needs.{needs}
 use Rattle.report.proofs.print.digits.Statement.{statement}
 use Rattle.report.proofs.print.digits.Tie as tie
 
-put-hex-requires : tie.Need-put-hex-requires
-put-hex-requires c κs = search needs
-
-next-requires : tie.Need-next-requires
-next-requires c κs = search needs
-
-same-length : tie.Need-same-length
-same-length c = search needs
-
 returns : tie.Need-returns
 returns c =
     let start = c .before .before .before .before .before .before in
@@ -26,4 +17,4 @@ returns c =
     (omega (arith, hexadecimal-length (a .label .0), start .pre)) (put .ensures .0) (put .ensures .1) (c .next .ensures)
 
 pub digits-spec : {M : Type 1} → statement M
-digits-spec = tie.close (tie.spec put-hex-requires next-requires same-length returns)
+digits-spec = tie.close (tie.spec (λ c κs. search needs) (λ c κs. search needs) (λ c. search needs) returns)

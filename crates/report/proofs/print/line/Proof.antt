@@ -23,12 +23,6 @@ module _ (c : tie.After-signed-number) where
   short : length (decimal (start .args .n)) ≤ 20
   short = decimal-short (start .args .n) (start .fits .n .sfits)
 
-signed-number-requires : tie.Need-signed-number-requires
-signed-number-requires c κs = search needs
-
-slice-aggregate-bytes : tie.Need-slice-aggregate-bytes
-slice-aggregate-bytes c = search needs
-
 bytes-requires : tie.Need-bytes-requires
 bytes-requires c κs =
     let n = c .before .before .before .before in
@@ -40,9 +34,6 @@ digits-requires c κs =
     let n = gap .before .before .before .before .before in
     written-room 1 8 (omega arith) (written-room 20 9 (short n) (omega (arith, start n .pre)) (first n)) (gap .bytes .ensures)
 
-slice-aggregate-bytes-2 : tie.Need-slice-aggregate-bytes-2
-slice-aggregate-bytes-2 c = search needs
-
 bytes-requires-2 : tie.Need-bytes-requires-2
 bytes-requires-2 c κs =
     let label = c .before .before .before .before in
@@ -51,9 +42,6 @@ bytes-requires-2 c κs =
     written-room 8 1 (omega (arith, hexadecimal-length (start n .args .label .0)))
     (written-room 1 9 (omega arith) (written-room 20 10 (short n) (omega (arith, start n .pre)) (first n)) (gap .bytes .ensures))
     (label .digits .ensures)
-
-same-length : tie.Need-same-length
-same-length c = search needs
 
 returns : tie.Need-returns
 returns c =
@@ -68,11 +56,11 @@ pub line-spec : {M : Type 1} → statement M
 line-spec =
     tie.close
     (tie.spec
-    signed-number-requires
-    slice-aggregate-bytes
+    (λ c κs. search needs)
+    (λ c. search needs)
     bytes-requires
     digits-requires
-    slice-aggregate-bytes-2
+    (λ c. search needs)
     bytes-requires-2
-    same-length
+    (λ c. search needs)
     returns)

@@ -4,11 +4,10 @@ use borrow.Author.Needs.{needs}
 use native.Mathlib.Omega.{arith}
 use mathlib.Core.Path.{_≡_, _∙_, sym, ap, ap₂, subst}
 use mathlib.Core.List.{List}
-use Prim.Native.Nat.{ℕ, _+_, _*_, _-_, _^_, _<_, _≤_, min}
+use Prim.Native.Nat.{ℕ, _*_, _-_, _<_, _≤_, min}
 use denote.Ref.{now}
-use lib.IntN.{ℤ, pos}
-use lib.Signed.{mag}
-use lib.ListN.{length, getD}
+use lib.IntN.{ℤ}
+use lib.ListN.{length}
 use Rattle.label.specs.Word.{lowLabel}
 use Rattle.word.proofs.Signed.{back-ok}
 use Rattle.machine.specs.Atom.{Line}
@@ -19,56 +18,41 @@ use Rattle.report.proofs.print.lines.Statement.{statement}
 use Rattle.report.proofs.print.lines.Tie as tie
 
 abbrev Inv-loop : tie.InvT-loop
-Inv-loop numbers marks written reader out₀ count at₀ i₀ out at i = Printing (reader .0) (first numbers marks written) out₀ out at i
+Inv-loop numbers lines written reader out₀ count at₀ i₀ out at i = Printing (reader .0) (first numbers lines written) out₀ out at i
 
 abbrev μ-loop : tie.MeasureT-loop
-μ-loop numbers marks written reader out₀ count at₀ i₀ out at i = count - i
+μ-loop numbers lines written reader out₀ count at₀ i₀ out at i = count - i
 
 module _ (h : tie.At-loop Inv-loop μ-loop) where
   abbrev start : tie.Start Inv-loop μ-loop
   start = h .before .before .before .before
 
   abbrev all : List Line
-  all = first (now (start .args .numbers)) (now (start .args .marks)) (start .args .written)
+  all = first (now (start .args .numbers)) (now (start .args .line-labels)) (start .args .written)
 
   -- the loop goes to their number
-  counted : h .before .smaller2 .result ≡ length all
+  counted : h .before .room2 .result ≡ length all
   counted =
-      h .before .smaller2 .ensures
-      ∙ ap (λ n. min (start .args .written) n) (h .before .before .smaller .ensures)
-      ∙ sym (first-length (now (start .args .numbers)) (now (start .args .marks)) (start .args .written))
+      h .before .room2 .ensures
+      ∙ ap (λ n. min (start .args .written) n) (h .before .before .room .ensures)
+      ∙ sym (first-length (now (start .args .numbers)) (now (start .args .line-labels)) (start .args .written))
 
-  room : 30 * length all ≤ length (now (start .args .out))
-  room = omega (arith, first-length (now (start .args .numbers)) (now (start .args .marks)) (start .args .written), start .pre)
-
-smaller-requires : tie.Need-smaller-requires Inv-loop μ-loop
-smaller-requires c κs = search needs
-
-smaller-requires-2 : tie.Need-smaller-requires-2 Inv-loop μ-loop
-smaller-requires-2 c κs = search needs
+  fits : 30 * length all ≤ length (now (start .args .out))
+  fits = omega (arith, first-length (now (start .args .numbers)) (now (start .args .line-labels)) (start .args .written), start .pre)
 
 loop-holds : tie.Need-loop-holds Inv-loop μ-loop
 loop-holds c = printing-start _ _ _
-
-at-requires : tie.Need-at-requires Inv-loop μ-loop
-at-requires c κs = search needs
-
-at-requires-2 : tie.Need-at-requires-2 Inv-loop μ-loop
-at-requires-2 c κs = search needs
-
-low-requires : tie.Need-low-requires Inv-loop μ-loop
-low-requires c κs = search needs
 
 shown-requires : tie.Need-shown-requires Inv-loop μ-loop
 shown-requires c κs =
     let h = c .before .before .before .before .before in
     let i = h .loop .inv in
-    omega (arith, room h, counted h, c .before .before .before .before .loop-test .taken, i .short, i .same)
+    omega (arith, fits h, counted h, c .before .before .before .before .loop-test .taken, i .short, i .same)
 
 add-i : tie.Need-add-i Inv-loop μ-loop
 add-i c =
     let h = c .before .before .before .before .before .before .before .before in
-    record { fits = omega (arith, c .before .before .before .before .before .before .before .loop-test .taken, h .before .smaller2 .ok) }
+    record { fits = omega (arith, c .before .before .before .before .before .before .before .loop-test .taken, h .before .room2 .ok) }
 
 loop-less : tie.Need-loop-less Inv-loop μ-loop
 loop-less c = omega (arith, c .before .before .before .before .before .before .before .loop-test .taken)
@@ -86,8 +70,8 @@ loop-again c =
     (back-ok (at .result) (at .ok) ∙ at .ensures)
     (c .before .before .before .before .low .ensures ∙ ap lowLabel (back-ok (at2 .result) (at2 .ok) ∙ at2 .ensures)) in
     printing-next (a .reader .0) (all h) (now (a .out)) (h .loop .out) (h .loop .at) i (h .loop .inv)
-    (lineAt (now (a .numbers)) (now (a .marks)) (a .written) i)
-    (first-at (now (a .numbers)) (now (a .marks)) (a .written) i below) below (rw (at .ensures) at (at .ok)) (room h) _ _
+    (lineAt (now (a .numbers)) (now (a .line-labels)) (a .written) i)
+    (first-at (now (a .numbers)) (now (a .line-labels)) (a .written) i below) below (rw (at .ensures) at (at .ok)) (fits h) _ _
     (subst (λ (t : List ℕ). Written t (h .loop .out) (h .loop .at) (c .before .before .shown .result) (c .before .before .shown .last .1 .1 .1 .0)) line
     (c .before .before .shown .ensures))
 
@@ -105,12 +89,12 @@ lines-spec =
     (tie.spec
     Inv-loop
     μ-loop
-    smaller-requires
-    smaller-requires-2
+    (λ c κs. search needs)
+    (λ c κs. search needs)
     loop-holds
-    at-requires
-    at-requires-2
-    low-requires
+    (λ c κs. search needs)
+    (λ c κs. search needs)
+    (λ c κs. search needs)
     shown-requires
     add-i
     loop-less

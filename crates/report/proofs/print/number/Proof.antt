@@ -8,15 +8,6 @@ use borrow.Author.Needs.{needs}
 use Rattle.report.proofs.print.number.Statement.{statement}
 use Rattle.report.proofs.print.number.Tie as tie
 
-put-natural-requires : tie.Need-put-natural-requires
-put-natural-requires c κs = search needs
-
-next-requires : tie.Need-next-requires
-next-requires c κs = search needs
-
-same-length : tie.Need-same-length
-same-length c = search needs
-
 returns : tie.Need-returns
 returns c =
     let start = c .before .before .before .before .before .before in
@@ -26,4 +17,4 @@ returns c =
     (omega (arith, natural-short (a .n), start .pre)) (put .ensures .0) (put .ensures .1) (c .next .ensures)
 
 pub number-spec : {M : Type 1} → statement M
-number-spec = tie.close (tie.spec put-natural-requires next-requires same-length returns)
+number-spec = tie.close (tie.spec (λ c κs. search needs) (λ c κs. search needs) (λ c. search needs) returns)

@@ -6,18 +6,6 @@ use borrow.Author.Needs.{needs}
 use Rattle.report.proofs.print.refused.Statement.{statement}
 use Rattle.report.proofs.print.refused.Tie as tie
 
-slice-aggregate-bytes : tie.Need-slice-aggregate-bytes
-slice-aggregate-bytes c = search needs
-
-bytes-requires : tie.Need-bytes-requires
-bytes-requires c κs = search needs
-
-number-requires : tie.Need-number-requires
-number-requires c κs = search needs
-
-slice-aggregate-bytes-2 : tie.Need-slice-aggregate-bytes-2
-slice-aggregate-bytes-2 c = search needs
-
 bytes-requires-2 : tie.Need-bytes-requires-2
 bytes-requires-2 c κs =
     let code = c .before .before .before .before in
@@ -37,9 +25,6 @@ number-requires-2 c κs =
     (code .number .ensures))
     (gap .bytes2 .ensures)
 
-slice-aggregate-bytes-3 : tie.Need-slice-aggregate-bytes-3
-slice-aggregate-bytes-3 c = search needs
-
 bytes-requires-3 : tie.Need-bytes-requires-3
 bytes-requires-3 c κs =
     let place = c .before .before .before .before in
@@ -53,9 +38,6 @@ bytes-requires-3 c κs =
     (code .number .ensures))
     (gap .bytes2 .ensures))
     (place .number2 .ensures)
-
-same-length : tie.Need-same-length
-same-length c = search needs
 
 returns : tie.Need-returns
 returns c =
@@ -75,13 +57,13 @@ pub refused-spec : {M : Type 1} → statement M
 refused-spec =
     tie.close
     (tie.spec
-    slice-aggregate-bytes
-    bytes-requires
-    number-requires
-    slice-aggregate-bytes-2
+    (λ c. search needs)
+    (λ c κs. search needs)
+    (λ c κs. search needs)
+    (λ c. search needs)
     bytes-requires-2
     number-requires-2
-    slice-aggregate-bytes-3
+    (λ c. search needs)
     bytes-requires-3
-    same-length
+    (λ c. search needs)
     returns)

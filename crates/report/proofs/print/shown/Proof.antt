@@ -8,15 +8,6 @@ use borrow.Author.Needs.{needs}
 use Rattle.report.proofs.print.shown.Statement.{statement}
 use Rattle.report.proofs.print.shown.Tie as tie
 
-flows-requires : tie.Need-flows-requires
-flows-requires c κs = search needs
-
-line-requires : tie.Need-line-requires
-line-requires c κs = search needs
-
-same-length : tie.Need-same-length
-same-length c = search needs
-
 returns : tie.Need-returns
 returns c =
     let line = c .before .before in
@@ -31,4 +22,4 @@ returns-2 c =
     (sym (c .before .flows .ensures) ∙ c .if1 .left)
 
 pub shown-spec : {M : Type 1} → statement M
-shown-spec = tie.close (tie.spec flows-requires line-requires same-length returns returns-2)
+shown-spec = tie.close (tie.spec (λ c κs. search needs) (λ c κs. search needs) (λ c. search needs) returns returns-2)

@@ -9,15 +9,6 @@ use borrow.Author.Needs.{needs}
 use Rattle.report.proofs.print.signed_number.Statement.{statement}
 use Rattle.report.proofs.print.signed_number.Tie as tie
 
-put-decimal-requires : tie.Need-put-decimal-requires
-put-decimal-requires c κs = search needs
-
-next-requires : tie.Need-next-requires
-next-requires c κs = search needs
-
-same-length : tie.Need-same-length
-same-length c = search needs
-
 returns : tie.Need-returns
 returns c =
     let start = c .before .before .before .before .before .before in
@@ -28,4 +19,4 @@ returns c =
     (omega (arith, decimal-short (a .n) (start .fits .n .sfits), start .pre)) (said .0) (said .1) (c .next .ensures)
 
 pub signed-number-spec : {M : Type 1} → statement M
-signed-number-spec = tie.close (tie.spec put-decimal-requires next-requires same-length returns)
+signed-number-spec = tie.close (tie.spec (λ c κs. search needs) (λ c κs. search needs) (λ c. search needs) returns)

@@ -1,21 +1,11 @@
-use borrow.Author.Needs.{needs}
+-- `tagged::consult::hit` meets its contract.
+-- Assumes nothing.
 use mathlib.Core.Path.{ap, _∙_}
 use Rattle.word.proofs.Signed.{back-ok}
 use Rattle.label.specs.Word.{lowLabel}
+use borrow.Author.Needs.{needs}
 use Rattle.tagged.proofs.consult.hit.Statement.{statement}
 use Rattle.tagged.proofs.consult.hit.Tie as tie
-
-get-requires : tie.Need-get-requires
-get-requires c κs = search needs
-
-low-requires : tie.Need-low-requires
-low-requires c κs = search needs
-
-get-requires-2 : tie.Need-get-requires-2
-get-requires-2 c κs = search needs
-
-low-requires-2 : tie.Need-low-requires-2
-low-requires-2 c κs = search needs
 
 returns : tie.Need-returns
 returns c =
@@ -26,4 +16,4 @@ returns c =
     )
 
 pub hit-spec : {M : Type 1} → statement M
-hit-spec = tie.close (tie.spec get-requires low-requires get-requires-2 low-requires-2 returns)
+hit-spec = tie.close (tie.spec (λ c κs. search needs) (λ c κs. search needs) (λ c κs. search needs) (λ c κs. search needs) returns)

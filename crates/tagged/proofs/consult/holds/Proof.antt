@@ -1,12 +1,11 @@
-use borrow.Author.Needs.{needs}
+-- `tagged::consult::holds` meets its contract.
+-- Assumes nothing.
 use mathlib.Core.Path.{ap, _∙_}
 use Rattle.tagging.specs.Consult.{sameWord}
 use Rattle.tagged.proofs.Seven.{same-test}
+use borrow.Author.Needs.{needs}
 use Rattle.tagged.proofs.consult.holds.Statement.{statement}
 use Rattle.tagged.proofs.consult.holds.Tie as tie
-
-get-requires : tie.Need-get-requires
-get-requires c κs = search needs
 
 returns : tie.Need-returns
 returns c =
@@ -15,4 +14,4 @@ returns c =
     ∙ ap (sameWord (s .args .word)) (c .get .ensures)
 
 pub holds-spec : {M : Type 1} → statement M
-holds-spec = tie.close (tie.spec get-requires returns)
+holds-spec = tie.close (tie.spec (λ c κs. search needs) returns)

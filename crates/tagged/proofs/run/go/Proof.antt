@@ -1,260 +1,255 @@
 -- `tagged::run::go` meets its contract. The loop's invariant: what is left to run, from where it stands, equals the whole run, and the
--- counts are small. The measure is the allowance that is left. Assumes nothing.
-use borrow.Author.Needs.{needs}
+-- counts are small. The measure is the allowance that is left.
+-- Assumes nothing.
 use native.Mathlib.Omega.{arith}
-use native.Mathlib.Nat.{mul-le-mul}
-use mathlib.Core.Path.{_≡_, refl, _∙_, sym, ap, ap₂}
+use mathlib.Core.Path.{_≡_, sym, ap₂, _∙_}
 use mathlib.Core.List.{List}
-use Prim.Native.Nat.{ℕ, _+_, _-_, _*_, _<_, _≤_}
+use Prim.Native.Nat.{ℕ, _-_, _<_, _≤_}
 use denote.Ref.{now}
-use lib.IntN.{ℤ, pos}
-use mir.Syntax.{w64}
-use mir.Val.{toZ, ofZ}
-use lib.ListN.{getD}
+use lib.IntN.{ℤ}
 use Rattle.word.specs.declared.number.Index.the-variants.{At}
 use Rattle.word.specs.Number.{indexOf}
 use Rattle.word.proofs.Signed.{back-ok}
-use Rattle.step.specs.Lent.{Lent, lent, outcome, after}
+use Rattle.word.proofs.Bits.{index-found}
+use Rattle.step.specs.Lent.{cells, Lent, lent, after}
+use Rattle.engine.specs.Memory.{Output, output}
+use Rattle.engine.specs.Act.{Acted, acted, actOf}
+use Rattle.engine.specs.Loop.{Done, done, wordAt, operandAt}
+use Rattle.engine.proofs.Going.{SameLengths, same-start, same-on, Going, Acting}
+use Rattle.engine.proofs.Going.{going-start, going-stopped, going-on, going-end, going-outside, going-at}
 use Rattle.handler.specs.Kernel.{Result}
 use Rattle.handler.specs.Space.{handleSpace}
 use Rattle.handler.proofs.Effect.{handleSpace-steps}
-use Rattle.word.proofs.Bits.{index-found}
-use Rattle.plain.proofs.Going.{SameLengths}
 use Rattle.tagging.specs.Consult.{Tag, tag}
-use Rattle.tagged.specs.Loop.{Acted, added, actOf, ranWith, doneOf}
-use Rattle.tagged.proofs.Going.{Few, act-few, Going, going-start, going-end, going-outside, going-stopped, going-on}
+use Rattle.tagged.specs.declared.run.Left.{Left}
+use Rattle.tagged.specs.Ruling.{tagWords}
+use Rattle.tagged.proofs.Counts.{added, Few, few-none, few-more, faults-fit, steps-fit, act-added, act-few}
+use borrow.Author.Needs.{needs}
 use Rattle.tagged.proofs.run.go.Statement.{statement}
 use Rattle.tagged.proofs.run.go.Tie as tie
 
 abbrev Inv-loop : tie.InvT-loop
-Inv-loop count room fuel program space size stack₀ values₀ labels₀ numbers₀ marks₀ m₀ cache₀ steps₀ faults₀ kernel₀ stack values labels numbers marks m cache steps faults kernel =
-    Going (handleSpace space size) size count room fuel program (cache₀ .words) (lent stack₀ values₀ labels₀ numbers₀ marks₀)
-    m (tag (cache .words) faults kernel) (lent stack values labels numbers marks) steps
+Inv-loop count room fuel program space size stack₀ values₀ labels₀ numbers₀ line-labels₀
+    m₀ cache₀ steps₀ faults₀ kernel₀ stack values labels numbers line-labels m cache steps faults kernel =
+    let l₀ = lent stack₀ (cells values₀ labels₀) in
+    let o₀ = output numbers₀ line-labels₀ in
+    let l = lent stack (cells values labels) in
+    let o = output numbers line-labels in
+    let u = tag (cache .words) faults kernel in
+    Going (tagWords (handleSpace space size)) count room fuel program (tag (cache₀ .words) 0 0) l₀ o₀ m u l o steps
+    × SameLengths l o l₀ o₀ × Few size steps u
 
 abbrev μ-loop : tie.MeasureT-loop
-μ-loop count room fuel program space size stack₀ values₀ labels₀ numbers₀ marks₀ m₀ cache₀ steps₀ faults₀ kernel₀ stack values labels numbers marks m cache steps faults kernel =
+μ-loop count room fuel program space size stack₀ values₀ labels₀ numbers₀ line-labels₀
+    m₀ cache₀ steps₀ faults₀ kernel₀ stack values labels numbers line-labels m cache steps faults kernel =
     fuel - steps
 
--- the lent runs at the loop's head
+-- the lent runs as they came, and at the loop's head
+abbrev given : tie.Start Inv-loop μ-loop → Lent
+given s = lent (now (s .args .stack)) (cells (now (s .args .values)) (now (s .args .labels)))
+
+abbrev empty : tie.Start Inv-loop μ-loop → Output
+empty s = output (now (s .args .numbers)) (now (s .args .line-labels))
+
 abbrev runs : tie.At-loop Inv-loop μ-loop → Lent
-runs h = lent (h .loop .stack) (h .loop .values) (h .loop .labels) (h .loop .numbers) (h .loop .marks)
+runs h = lent (h .loop .stack) (cells (h .loop .values) (h .loop .labels))
 
-at-most : {x y n : ℕ} → x ≡ y → y ≤ n → x ≤ n
-at-most e h = rw e h
+abbrev written : tie.At-loop Inv-loop μ-loop → Output
+written h = output (h .loop .numbers) (h .loop .line-labels)
 
--- a command was carried out or stopped
-module _ (a : tie.After-act Inv-loop μ-loop) where
+-- a command stands at the place
+module _ (k : tie.After-known-told Inv-loop μ-loop) where
   abbrev head : tie.At-loop Inv-loop μ-loop
-  head = a .before .before .before .before .before .before .before .before .before .before .before .before .before
+  head = k .before .before .before .before .before
 
   abbrev start : tie.Start Inv-loop μ-loop
   start = head .before .before
 
   taken : head .loop .steps < start .args .fuel
-  taken = a .before .before .before .before .before .before .before .before .before .before .before .before .loop-test .taken
+  taken = k .before .before .before .before .loop-test .taken
 
-  -- the index of the command
   abbrev i : ℕ
-  i = a .before .before .before .before .before .before .before .before .before .place .given .0 .0
+  i = k .before .place .given .0 .0
 
   place : indexOf (head .loop .m .pc .0) (start .args .count) ≡ At i
-  place = sym (a .before .before .before .before .before .before .before .before .before .before .before .index .ensures) ∙ a .before .before .before .before .before .before .before .before .before .place .given .1
+  place = sym (k .before .before .before .index .ensures) ∙ k .before .place .given .1
 
-  -- the lent runs after it
-  abbrev last : Lent
-  last =
-      lent (a .act .last .1 .1 .1 .1 .1 .1 .1 .0) (a .act .last .1 .1 .1 .1 .1 .1 .1 .1 .0) (a .act .last .1 .1 .1 .1 .1 .1 .1 .1 .1 .0) (a .act .last .1 .1 .1 .1 .1 .1 .1 .1 .1 .1 .0)
-      (a .act .last .1 .1 .1 .1 .1 .1 .1 .1 .1 .1 .1 .0)
+  inside : i < start .args .count
+  inside = index-found _ _ _ place .1
 
   abbrev handles : List ℤ → Result
   handles = handleSpace (now (start .args .space)) (start .args .size)
 
-  abbrev acts : Acted
-  acts =
-      actOf handles (start .args .room) (getD (now (start .args .program)) (2 * i) (pos 0)) (getD (now (start .args .program)) (2 * i + 1) (pos 0))
-      (head .loop .m) (runs head) (head .loop .cache .words)
+  -- what it comes to, by its words
+  abbrev comes : Tag → ℤ → ℤ → Acted Tag
+  comes u word operand = actOf (tagWords handles) word operand (head .loop .m) u (runs head)
 
-  -- what it adds
-  abbrev adds : Tag
-  adds = tag (a .act .result .cache .words) (a .act .result .faults) (a .act .result .kernel)
+-- it was carried out or stopped, and its line written
+module _ (e : tie.After-emit Inv-loop μ-loop) where
+  abbrev done-act : tie.After-act Inv-loop μ-loop
+  done-act = e .before .before .before .before .before .before .before
 
-  -- the command's two words, as they were read
-  abbrev word : ℤ
-  word = getD (now (start .args .program)) (2 * i) (pos 0)
+  abbrev found : tie.After-known-told Inv-loop μ-loop
+  found = done-act .before .before .before .before .before .before
 
-  abbrev operand : ℤ
-  operand = getD (now (start .args .program)) (2 * i + 1) (pos 0)
+  below : head found .loop .steps ≤ 1000000
+  below = omega (arith, taken found, start found .pre .2)
 
-  word-is : toZ w64 (ofZ w64 (a .before .before .before .before .before .before .before .at .result)) ≡ word
-  word-is = let at = a .before .before .before .before .before .before .before in back-ok (at .at .result) (at .at .ok) ∙ at .at .ensures
+  -- the lent runs after it
+  abbrev last : Lent
+  last = let x = done-act .act .last .1 .1 .1 .1 .1 .1 in lent (x .0) (cells (x .1 .0) (x .1 .1 .0))
 
-  operand-is : toZ w64 (ofZ w64 (a .before .before .before .before .before .before .at2 .result)) ≡ operand
-  operand-is = let at = a .before .before .before .before .before .before in back-ok (at .at2 .result) (at .at2 .ok) ∙ at .at2 .ensures
+  abbrev lines : Output
+  lines = let x = e .emit .last .1 .1 .1 in output (x .0) (x .1 .0)
 
-  did : after (outcome (a .act .result .machine) (a .act .result .stop)) last ≡ acts .after
-  did =
-      a .act .ensures .0
-      ∙ ap₂ (λ w n. actOf handles (start .args .room) w n (head .loop .m) (runs head) (head .loop .cache .words) .after) word-is operand-is
+  -- the counts before it, and what it adds
+  abbrev before : Tag
+  before = tag (head found .loop .cache .words) (head found .loop .faults) (head found .loop .kernel)
 
-  added-is : adds ≡ added (acts .consulted)
-  added-is =
-      a .act .ensures .1
-      ∙ ap₂ (λ w n. added (actOf handles (start .args .room) w n (head .loop .m) (runs head) (head .loop .cache .words) .consulted)) word-is operand-is
+  abbrev adds : Acted Tag
+  adds = let r = done-act .act .result in acted (after (r .stepped) last) (tag (r .cache .words) (r .faults) (r .kernel))
 
-  few : Few (start .args .size) (acts .consulted)
-  few = act-few handles (start .args .size) (handleSpace-steps (now (start .args .space)) (start .args .size)) _ _ _ _ _ _
+  abbrev words : List ℤ
+  words = now (start found .args .program)
 
-  -- the counts stay small
-  faults-few : a .act .result .faults ≤ 1
-  faults-few = at-most (ap (λ (x : Tag). x .faults) added-is) (few .faults)
+  adds-is : adds ≡ comes found (tag (before .row) 0 0) (wordAt words (i found)) (operandAt words (i found))
+  adds-is =
+      let at2 = done-act .before .before .before .before in
+      done-act .act .ensures
+      ∙ ap₂ (comes found (tag (before .row) 0 0)) (back-ok (at2 .before .at .result) (at2 .before .at .ok) ∙ at2 .before .at .ensures)
+      (back-ok (at2 .at2 .result) (at2 .at2 .ok) ∙ at2 .at2 .ensures)
 
-  kernel-few : a .act .result .kernel ≤ start .args .size
-  kernel-few = at-most (ap (λ (x : Tag). x .kernelSteps) added-is) (few .kernelSteps)
+  adds-few : Few (start found .args .size) 1 (adds .ruler)
+  adds-few =
+      let s = start found .args in
+      act-few (handles found) _ _ _ _ (s .size) (handleSpace-steps (now (s .space)) (s .size)) _ adds adds-is
 
-  same : SameLengths last (runs head)
+  abbrev acts : Acted Tag
+  acts = acted (adds .after) (added before (adds .ruler))
+
+  does : acts ≡ comes found before (wordAt words (i found)) (operandAt words (i found))
+  does = act-added (handles found) _ _ _ _ before adds adds-is
+
+  acting : Acting (tagWords (handles found)) (start found .args .count) (start found .args .room) (start found .args .fuel) words
+      (tag (start found .args .memory .words) 0 0) (given (start found)) (empty (start found))
+      (wordAt words (i found)) (operandAt words (i found)) (head found .loop .m) before (runs (head found)) (written (head found))
+      (head found .loop .steps)
+  acting = going-at _ _ _ _ _ _ _ _ _ _ _ _ _ (head found .loop .inv .0) (taken found) _ (place found)
+
+  same : SameLengths last lines (given (start found)) (empty (start found))
   same =
-      record {
-        stack = a .act .kept .1 .1 .1 .1 .1 .1 .1 .0;
-        values = a .act .kept .1 .1 .1 .1 .1 .1 .1 .1 .0;
-        labels = a .act .kept .1 .1 .1 .1 .1 .1 .1 .1 .1 .0;
-        numbers = a .act .kept .1 .1 .1 .1 .1 .1 .1 .1 .1 .1 .0;
-        marks = a .act .kept .1 .1 .1 .1 .1 .1 .1 .1 .1 .1 .1 .0;
-      }
+      let x = done-act .act .kept .1 .1 .1 .1 .1 .1 in
+      let y = e .emit .kept .1 .1 .1 in
+      same-on (record { stack = x .0; values = x .1 .0; labels = x .1 .1 .0; numbers = y .0; lineLabels = y .1 .0 })
+      (head found .loop .inv .1)
 
-start-requires : tie.Need-start-requires Inv-loop μ-loop
-start-requires c κs = search needs
+-- what is handed back
+left-as : (r : Left) (l : Lent) (o : Output) {q : Left} {w : Done Tag} → r ≡ q
+    → done (q .ran) (tag (q .cache .words) (q .faults) (q .kernel)) l o ≡ w
+    → done (r .ran) (tag (r .cache .words) (r .faults) (r .kernel)) l o ≡ w
+left-as r l o e d = rw e d
 
 loop-holds : tie.Need-loop-holds Inv-loop μ-loop
-loop-holds c = rw (c .start .ensures) (going-start _ _ _ _ _ _ _ _)
-
-index-requires : tie.Need-index-requires Inv-loop μ-loop
-index-requires c κs = search needs
-
-enum-known-place : tie.Need-enum-known-place Inv-loop μ-loop
-enum-known-place c = search needs
+loop-holds c = rw (c .start .ensures) (going-start _ _ _ _ _ _ _ _, same-start _ _, few-none _ _)
 
 mul-at : tie.Need-mul-at Inv-loop μ-loop
-mul-at c = record { fits = omega (arith, index-found _ _ _ (sym (c .before .before .before .index .ensures) ∙ c .before .place .given .1) .1, c .before .before .before .before .before .before .before .pre .0) }
-
-at-requires : tie.Need-at-requires Inv-loop μ-loop
-at-requires c κs = search needs
+mul-at c = record { fits = omega (arith, inside c, start c .pre .0) }
 
 mul-at-2 : tie.Need-mul-at-2 Inv-loop μ-loop
-mul-at-2 c = record { fits = omega (arith, index-found _ _ _ (sym (c .before .before .before .before .index .ensures) ∙ c .before .before .place .given .1) .1, c .before .before .before .before .before .before .before .before .pre .0) }
+mul-at-2 c = record { fits = omega (arith, inside (c .before), start (c .before) .pre .0) }
 
 add-at : tie.Need-add-at Inv-loop μ-loop
-add-at c = record { fits = omega (arith, index-found _ _ _ (sym (c .before .before .before .before .index .ensures) ∙ c .before .before .place .given .1) .1, c .before .before .before .before .before .before .before .before .pre .0) }
-
-at-requires-2 : tie.Need-at-requires-2 Inv-loop μ-loop
-at-requires-2 c κs = search needs
-
-act-requires : tie.Need-act-requires Inv-loop μ-loop
-act-requires c κs = search needs
+add-at c = record { fits = omega (arith, inside (c .before), start (c .before) .pre .0) }
 
 add-faults : tie.Need-add-faults Inv-loop μ-loop
-add-faults c = let a = c .before .before .before .before .before .before .before .before in record { fits = omega (arith, head a .loop .inv .faults, faults-few a, taken a, start a .pre .2) }
-
--- the kernel steps fit
-small : (n s a b : ℕ) → a ≤ n * s → b ≤ s → s ≤ 8192 → n ≤ 1000000 → a + b < 18446744073709551616
-small n s a b p q h k =
-    let r : n * s ≤ 1000000 * 8192 = mul-le-mul k h in
-    omega (arith, p, q, r)
+add-faults c =
+    let e = c .before .before .before .before .before in
+    record { fits = faults-fit (head (found e) .loop .inv .2) (adds-few e) (start (found e) .pre .1) (below e) }
 
 add-kernel : tie.Need-add-kernel Inv-loop μ-loop
-add-kernel c = let a = c .before .before .before .before .before .before .before .before .before in record { fits = small (head a .loop .steps) (start a .args .size) (head a .loop .kernel) (a .act .result .kernel) (head a .loop .inv .kernelSteps) (kernel-few a) (start a .pre .1) (omega (arith, taken a, start a .pre .2)) }
-
-ended-requires : tie.Need-ended-requires Inv-loop μ-loop
-ended-requires c κs = search needs
+add-kernel c =
+    let e = c .before .before .before .before .before .before in
+    record { fits = steps-fit (head (found e) .loop .inv .2) (adds-few e) (start (found e) .pre .1) (below e) }
 
 same-length : tie.Need-same-length Inv-loop μ-loop
-same-length c = let a = c .before .before .before .before .before .before .before .before .before .before .before in same a .stack ∙ head a .loop .inv .same .stack
+same-length c = same (c .before .before .before .before .before .before .before .before) .stack
 
 same-length-2 : tie.Need-same-length-2 Inv-loop μ-loop
-same-length-2 c = let a = c .before .before .before .before .before .before .before .before .before .before .before in same a .values ∙ head a .loop .inv .same .values
+same-length-2 c = same (c .before .before .before .before .before .before .before .before) .values
 
 same-length-3 : tie.Need-same-length-3 Inv-loop μ-loop
-same-length-3 c = let a = c .before .before .before .before .before .before .before .before .before .before .before in same a .labels ∙ head a .loop .inv .same .labels
+same-length-3 c = same (c .before .before .before .before .before .before .before .before) .labels
 
 same-length-4 : tie.Need-same-length-4 Inv-loop μ-loop
-same-length-4 c = let a = c .before .before .before .before .before .before .before .before .before .before .before in same a .numbers ∙ head a .loop .inv .same .numbers
+same-length-4 c = same (c .before .before .before .before .before .before .before .before) .numbers
 
 same-length-5 : tie.Need-same-length-5 Inv-loop μ-loop
-same-length-5 c = let a = c .before .before .before .before .before .before .before .before .before .before .before in same a .marks ∙ head a .loop .inv .same .marks
+same-length-5 c = same (c .before .before .before .before .before .before .before .before) .lineLabels
 
 returns : tie.Need-returns Inv-loop μ-loop
 returns c =
-    let a = c .before .before .before .before .before .before .before .before .before .before .before in
-    ap₂ (λ r w. doneOf r w (last a)) (c .ended .ensures .0) (c .ended .ensures .1)
-    ∙ going-stopped _ _ _ _ _ _ _ _ _ _ _ _ (head a .loop .inv) (taken a) _ (place a) _ _ _ (adds a) (did a) (added-is a) (c .before .if1 .taken)
+    let e = c .before .before .before .before .before .before .before .before in
+    left-as (c .ended .result) (last e) (lines e) (c .ended .ensures)
+    (going-stopped _ _ _ _ _ _ _ _ _ _ _ _ _ _ _ (acting e) (acts e) (does e) (e .emit .result) (lines e) (e .emit .ensures)
+    (c .before .if1 .taken))
 
 add-steps : tie.Need-add-steps Inv-loop μ-loop
-add-steps c = let a = c .before .before .before .before .before .before .before .before .before .before in record { fits = omega (arith, taken a, start a .pre .2) }
+add-steps c = let e = c .before .before .before .before .before .before .before in record { fits = omega (arith, below e) }
 
 loop-less : tie.Need-loop-less Inv-loop μ-loop
-loop-less c = let a = c .before .before .before .before .before .before .before .before .before .before in omega (arith, taken a)
+loop-less c = let e = c .before .before .before .before .before .before .before in omega (arith, taken (found e))
 
 loop-again : tie.Need-loop-again Inv-loop μ-loop
 loop-again c =
-    let a = c .before .before .before .before .before .before .before .before .before .before in
-    going-on _ _ _ _ _ _ _ _ _ _ _ _ (head a .loop .inv) (taken a) _ (place a) _ _ _ (adds a) (did a) (added-is a) (c .if1 .left) (same a) (few a)
-
-enum-told : tie.Need-enum-told Inv-loop μ-loop
-enum-told c = search needs
-
-end-or-requires : tie.Need-end-or-requires Inv-loop μ-loop
-end-or-requires c κs = search needs
-
-ended-requires-2 : tie.Need-ended-requires-2 Inv-loop μ-loop
-ended-requires-2 c κs = search needs
+    let e = c .before .before .before .before .before .before .before in (
+      going-on _ _ _ _ _ _ _ _ _ _ _ _ _ _ _ (acting e) (acts e) (does e) (e .emit .result) (lines e) (e .emit .ensures) (c .if1 .left),
+      same e,
+      few-more (head (found e) .loop .inv .2) (adds-few e),
+    )
 
 same-length-6 : tie.Need-same-length-6 Inv-loop μ-loop
-same-length-6 c = c .before .before .before .before .before .before .loop .inv .same .stack
+same-length-6 c = c .before .before .before .before .before .before .loop .inv .1 .stack
 
 same-length-7 : tie.Need-same-length-7 Inv-loop μ-loop
-same-length-7 c = c .before .before .before .before .before .before .loop .inv .same .values
+same-length-7 c = c .before .before .before .before .before .before .loop .inv .1 .values
 
 same-length-8 : tie.Need-same-length-8 Inv-loop μ-loop
-same-length-8 c = c .before .before .before .before .before .before .loop .inv .same .labels
+same-length-8 c = c .before .before .before .before .before .before .loop .inv .1 .labels
 
 same-length-9 : tie.Need-same-length-9 Inv-loop μ-loop
-same-length-9 c = c .before .before .before .before .before .before .loop .inv .same .numbers
+same-length-9 c = c .before .before .before .before .before .before .loop .inv .1 .numbers
 
 same-length-10 : tie.Need-same-length-10 Inv-loop μ-loop
-same-length-10 c = c .before .before .before .before .before .before .loop .inv .same .marks
+same-length-10 c = c .before .before .before .before .before .before .loop .inv .1 .lineLabels
 
 returns-2 : tie.Need-returns-2 Inv-loop μ-loop
 returns-2 c =
-    let l = c .before .before .before .before .before .before in
-    ap₂ (λ r w. doneOf r w (runs l)) (c .ended2 .ensures .0 ∙ ap (λ n. ranWith (l .loop .m) n (l .loop .steps) (l .loop .faults) (l .loop .kernel)) (c .before .end-or .ensures)) (c .ended2 .ensures .1)
-    ∙ going-outside _ _ _ _ _ _ _ _ _ _ _ _ (l .loop .inv) (c .before .before .before .before .before .loop-test .taken)
-    (sym (c .before .before .before .before .index .ensures) ∙ c .before .before .enum-told .given .1)
-
-end-or-requires-2 : tie.Need-end-or-requires-2 Inv-loop μ-loop
-end-or-requires-2 c κs = search needs
-
-ended-requires-3 : tie.Need-ended-requires-3 Inv-loop μ-loop
-ended-requires-3 c κs = search needs
+    let h = c .before .before .before .before .before .before in
+    left-as (c .ended2 .result) (runs h) (written h) (c .ended2 .ensures)
+    (rw (c .before .end-or .ensures)
+    (going-outside _ _ _ _ _ _ _ _ _ _ _ _ _ (h .loop .inv .0) (c .before .before .before .before .before .loop-test .taken)
+    (sym (c .before .before .before .before .index .ensures) ∙ c .before .before .enum-told .given .1)))
 
 same-length-11 : tie.Need-same-length-11 Inv-loop μ-loop
-same-length-11 c = c .before .before .before .loop .inv .same .stack
+same-length-11 c = c .before .before .before .loop .inv .1 .stack
 
 same-length-12 : tie.Need-same-length-12 Inv-loop μ-loop
-same-length-12 c = c .before .before .before .loop .inv .same .values
+same-length-12 c = c .before .before .before .loop .inv .1 .values
 
 same-length-13 : tie.Need-same-length-13 Inv-loop μ-loop
-same-length-13 c = c .before .before .before .loop .inv .same .labels
+same-length-13 c = c .before .before .before .loop .inv .1 .labels
 
 same-length-14 : tie.Need-same-length-14 Inv-loop μ-loop
-same-length-14 c = c .before .before .before .loop .inv .same .numbers
+same-length-14 c = c .before .before .before .loop .inv .1 .numbers
 
 same-length-15 : tie.Need-same-length-15 Inv-loop μ-loop
-same-length-15 c = c .before .before .before .loop .inv .same .marks
+same-length-15 c = c .before .before .before .loop .inv .1 .lineLabels
 
 returns-3 : tie.Need-returns-3 Inv-loop μ-loop
 returns-3 c =
-    let l = c .before .before .before in
-    ap₂ (λ r w. doneOf r w (runs l)) (c .ended3 .ensures .0 ∙ ap (λ n. ranWith (l .loop .m) n (l .loop .steps) (l .loop .faults) (l .loop .kernel)) (c .before .end-or2 .ensures)) (c .ended3 .ensures .1)
-    ∙ going-end _ _ _ _ _ _ _ _ _ _ _ _ (l .loop .inv) (c .before .before .loop-test .left)
+    let h = c .before .before .before in
+    left-as (c .ended3 .result) (runs h) (written h) (c .ended3 .ensures)
+    (rw (c .before .end-or2 .ensures) (going-end _ _ _ _ _ _ _ _ _ _ _ _ _ (h .loop .inv .0) (c .before .before .loop-test .left)))
 
 pub go-spec : {M : Type 1} → statement M
 go-spec =
@@ -262,19 +257,20 @@ go-spec =
     (tie.spec
     Inv-loop
     μ-loop
-    start-requires
+    (λ c κs. search needs)
     loop-holds
-    index-requires
-    enum-known-place
+    (λ c κs. search needs)
+    (λ c. search needs)
     mul-at
-    at-requires
+    (λ c κs. search needs)
     mul-at-2
     add-at
-    at-requires-2
-    act-requires
+    (λ c κs. search needs)
+    (λ c κs. search needs)
+    (λ c κs. search needs)
     add-faults
     add-kernel
-    ended-requires
+    (λ c κs. search needs)
     same-length
     same-length-2
     same-length-3
@@ -284,17 +280,17 @@ go-spec =
     add-steps
     loop-less
     loop-again
-    enum-told
-    end-or-requires
-    ended-requires-2
+    (λ c. search needs)
+    (λ c κs. search needs)
+    (λ c κs. search needs)
     same-length-6
     same-length-7
     same-length-8
     same-length-9
     same-length-10
     returns-2
-    end-or-requires-2
-    ended-requires-3
+    (λ c κs. search needs)
+    (λ c κs. search needs)
     same-length-11
     same-length-12
     same-length-13

@@ -9,14 +9,8 @@ use Rattle.word.proofs.Laws.Field.{bitsAt-lt, signedAt-whole, signedAt-
 use Rattle.word.proofs.field.signed_at.Statement.{statement}
 use Rattle.word.proofs.field.signed_at.Tie as tie
 
-within-requires : tie.Need-within-requires
-within-requires c κs = search needs
-
 bits-requires : tie.Need-bits-requires
 bits-requires c κs = (leb-passed _ _ (c .before .within .ensures) (c .if1 .taken), search needs)
-
-mul-complement : tie.Need-mul-complement
-mul-complement c = search needs
 
 complement-requires : tie.Need-complement-requires
 complement-requires c κs =
@@ -42,4 +36,4 @@ returns-2 c =
 pub signed-at-spec : {M : Type 1} → statement M
 signed-at-spec =
     tie.close
-    (tie.spec within-requires bits-requires mul-complement complement-requires returns returns-2)
+    (tie.spec (λ c κs. search needs) bits-requires (λ c. search needs) complement-requires returns returns-2)

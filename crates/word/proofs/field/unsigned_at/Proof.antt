@@ -9,9 +9,6 @@ use Rattle.word.proofs.Laws.Field.{bitsAt-half, unsignedAt-whole, unsig
 use Rattle.word.proofs.field.unsigned_at.Statement.{statement}
 use Rattle.word.proofs.field.unsigned_at.Tie as tie
 
-within-requires : tie.Need-within-requires
-within-requires c κs = search needs
-
 bits-requires : tie.Need-bits-requires
 bits-requires c κs = (leb-passed _ _ (c .before .within .ensures) (c .if1 .taken), search needs)
 
@@ -38,4 +35,4 @@ returns-2 c =
     sym (unsignedAt-cut (a .width) (a .s .now) (a .at) cut)
 
 pub unsigned-at-spec : {M : Type 1} → statement M
-unsigned-at-spec = tie.close (tie.spec within-requires bits-requires cast-t8 returns returns-2)
+unsigned-at-spec = tie.close (tie.spec (λ c κs. search needs) bits-requires cast-t8 returns returns-2)

@@ -7,20 +7,8 @@ use borrow.Author.Needs.{needs}
 use Rattle.word.proofs.memory.put.Statement.{statement}
 use Rattle.word.proofs.memory.put.Tie as tie
 
-mul-word : tie.Need-mul-word
-mul-word c = search needs
-
-slice-set-from-word : tie.Need-slice-set-from-word
-slice-set-from-word c = search needs
-
-same-length : tie.Need-same-length
-same-length c = search needs
-
-returns : tie.Need-returns
-returns c = search needs
-
 returns-2 : tie.Need-returns-2
 returns-2 c = sym (set-out (now (c .before .args .memory)) (c .before .args .i) (c .before .args .word) (c .if1 .left))
 
 pub put-spec : {M : Type 1} → statement M
-put-spec = tie.close (tie.spec mul-word slice-set-from-word same-length returns returns-2)
+put-spec = tie.close (tie.spec (λ c. search needs) (λ c. search needs) (λ c. search needs) (λ c. search needs) returns-2)

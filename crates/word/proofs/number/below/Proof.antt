@@ -18,9 +18,6 @@ module _ (a : tie.After-to-bits) where
   bits : a .to-bits .result ≡ residue 64 (a .before .before .args .word)
   bits = a .to-bits .ensures ∙ ap (residue 64) (back (a .before .before .fits .word))
 
-to-bits-requires : tie.Need-to-bits-requires
-to-bits-requires c κs = search needs
-
 returns : tie.Need-returns
 returns c =
     let a = c .before in
@@ -28,15 +25,6 @@ returns c =
 
 returns-2 : tie.Need-returns-2
 returns-2 c = let a = c .before in bits-above _ _ (fits a) (rw (bits a) at (c .if2 .left))
-
-unsigned-requires : tie.Need-unsigned-requires
-unsigned-requires c κs = search needs
-
-enum-told : tie.Need-enum-told
-enum-told c = search needs
-
-enum-known-number : tie.Need-enum-known-number
-enum-known-number c = search needs
 
 returns-3 : tie.Need-returns-3
 unfolding indexOf
@@ -59,4 +47,4 @@ returns-5 c =
 pub below-spec : {M : Type 1} → statement M
 below-spec =
     tie.close
-    (tie.spec to-bits-requires returns returns-2 unsigned-requires enum-told enum-known-number returns-3 returns-4 returns-5)
+    (tie.spec (λ c κs. search needs) returns returns-2 (λ c κs. search needs) (λ c. search needs) (λ c. search needs) returns-3 returns-4 returns-5)

@@ -1,6 +1,5 @@
 -- `word::unsigned` meets its contract: the test of the sign decides.
 -- Assumes nothing.
-use lib.Signed.{ltZ}
 use Rattle.word.proofs.Signed.{back, negative, natural, cast-natural}
 use Rattle.word.proofs.number.unsigned.Statement.{statement}
 use Rattle.word.proofs.number.unsigned.Tie as tie

@@ -6,21 +6,6 @@ use Rattle.word.proofs.Laws.Numeral.{digitChar-lower, digitChar-upper}
 use Rattle.word.proofs.text.digit.Statement.{statement}
 use Rattle.word.proofs.text.digit.Tie as tie
 
-cast-result : tie.Need-cast-result
-cast-result c = search needs
-
-add-result : tie.Need-add-result
-add-result c = search needs
-
-sub-result : tie.Need-sub-result
-sub-result c = search needs
-
-cast-result-2 : tie.Need-cast-result-2
-cast-result-2 c = search needs
-
-add-result-2 : tie.Need-add-result-2
-add-result-2 c = search needs
-
 returns : tie.Need-returns
 returns c = sym (digitChar-lower (c .before .args .d) (c .if1 .taken))
 
@@ -30,4 +15,4 @@ returns-2 c = sym (digitChar-upper (c .before .args .d) (c .if1 .left))
 pub digit-spec : {M : Type 1} → statement M
 digit-spec =
     tie.close
-    (tie.spec cast-result add-result sub-result cast-result-2 add-result-2 returns returns-2)
+    (tie.spec (λ c. search needs) (λ c. search needs) (λ c. search needs) (λ c. search needs) (λ c. search needs) returns returns-2)

@@ -26,9 +26,6 @@ returns c =
     let f = c .before .fits .n in
     rw (flip-back a f (c .if1 .taken)) (flip-abs a f (c .if1 .taken))
 
-returns-2 : tie.Need-returns-2
-returns-2 c = search needs
-
 pub magnitude-spec : {M : Type 1} → statement M
 magnitude-spec =
-    tie.close (tie.spec sub-result cast-result add-result cast-result-2 returns returns-2)
+    tie.close (tie.spec sub-result cast-result add-result cast-result-2 returns (λ c. search needs))

@@ -14,18 +14,9 @@ use Rattle.word.proofs.Laws.Text.{decimal-negative, decimal-natural, pu
 use Rattle.word.proofs.text.put_decimal.Statement.{statement}
 use Rattle.word.proofs.text.put_decimal.Tie as tie
 
-magnitude-requires : tie.Need-magnitude-requires
-magnitude-requires c κs = search needs
-
-digit-count-requires : tie.Need-digit-count-requires
-digit-count-requires c κs = search needs
-
 add-within : tie.Need-add-within
 add-within c =
     omega (arith, c .before .digit-count .ensures, digitCount-le 10 19 (c .before .before .magnitude .result))
-
-within-requires : tie.Need-within-requires
-within-requires c κs = search needs
 
 slice-write-out : tie.Need-slice-write-out
 slice-write-out c =
@@ -42,12 +33,6 @@ add-put-numeral c =
     let room : a .at + (count + 1) ≤ length (a .out .now) =
     leb-passed _ _ (c .before .before .within .ensures) (c .before .if2 .taken) in
     omega arith
-
-put-numeral-requires : tie.Need-put-numeral-requires
-put-numeral-requires c κs = search needs
-
-put-numeral-requires-2 : tie.Need-put-numeral-requires-2
-put-numeral-requires-2 c κs = search needs
 
 same-length : tie.Need-same-length
 same-length c = c .before .out .given ∙ simp length-set
@@ -84,9 +69,6 @@ returns-2 c =
     (leb-failed _ _ (c .before .within .ensures) (c .if2 .left)) in
     rw said (sym (put .0), sym (put .1))
 
-same-length-2 : tie.Need-same-length-2
-same-length-2 c = search needs
-
 returns-3 : tie.Need-returns-3
 returns-3 c =
     let start = c .before .before .before .before .before .before .before .before in
@@ -103,16 +85,16 @@ pub put-decimal-spec : {M : Type 1} → statement M
 put-decimal-spec =
     tie.close
     (tie.spec
-    magnitude-requires
-    digit-count-requires
+    (λ c κs. search needs)
+    (λ c κs. search needs)
     add-within
-    within-requires
+    (λ c κs. search needs)
     slice-write-out
     add-put-numeral
-    put-numeral-requires
-    put-numeral-requires-2
+    (λ c κs. search needs)
+    (λ c κs. search needs)
     same-length
     returns
     returns-2
-    same-length-2
+    (λ c. search needs)
     returns-3)

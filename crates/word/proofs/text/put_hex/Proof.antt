@@ -5,15 +5,9 @@ use Rattle.word.specs.Text.{hexadecimal}
 use Rattle.word.proofs.text.put_hex.Statement.{statement}
 use Rattle.word.proofs.text.put_hex.Tie as tie
 
-put-numeral-requires : tie.Need-put-numeral-requires
-put-numeral-requires c κs = search needs
-
-same-length : tie.Need-same-length
-same-length c = search needs
-
 returns : tie.Need-returns
 unfolding hexadecimal
 returns c = c .before .before .put-numeral .ensures
 
 pub put-hex-spec : {M : Type 1} → statement M
-put-hex-spec = tie.close (tie.spec put-numeral-requires same-length returns)
+put-hex-spec = tie.close (tie.spec (λ c κs. search needs) (λ c. search needs) returns)

@@ -12,9 +12,6 @@ use Rattle.word.proofs.Laws.Text.{put-room, put-none}
 use Rattle.word.proofs.text.put_numeral.Statement.{statement}
 use Rattle.word.proofs.text.put_numeral.Tie as tie
 
-within-requires : tie.Need-within-requires
-within-requires c κs = search needs
-
 put-digits-requires : tie.Need-put-digits-requires
 put-digits-requires c κs =
     (search needs, search needs, leb-passed _ _ (c .before .before .within .ensures) (c .before .if1 .taken))
@@ -25,9 +22,6 @@ add-t12 c =
     let room : a .at + a .count ≤ length (a .out .now) =
     leb-passed _ _ (c .before .before .before .before .before .within .ensures) (c .before .before .before .before .if1 .taken) in
     omega arith
-
-same-length : tie.Need-same-length
-same-length c = search needs
 
 returns : tie.Need-returns
 returns c =
@@ -49,4 +43,4 @@ returns-2 c =
 
 pub put-numeral-spec : {M : Type 1} → statement M
 put-numeral-spec =
-    tie.close (tie.spec within-requires put-digits-requires add-t12 same-length returns returns-2)
+    tie.close (tie.spec (λ c κs. search needs) put-digits-requires add-t12 (λ c. search needs) returns returns-2)

@@ -7,12 +7,6 @@ use Rattle.word.proofs.Laws.Word.{top-half, top-word, lower-signed, upp
 use Rattle.word.proofs.wrap.complement.Statement.{statement}
 use Rattle.word.proofs.wrap.complement.Tie as tie
 
-sub-half : tie.Need-sub-half
-sub-half c = search needs
-
-shl-half : tie.Need-shl-half
-shl-half c = search needs
-
 cast-result : tie.Need-cast-result
 cast-result c =
     record { sfits = omega (arith, top-word (c .before .args .width) (search needs) (search needs)) }
@@ -50,8 +44,8 @@ pub complement-spec : {M : Type 1} → statement M
 complement-spec =
     tie.close
     (tie.spec
-    sub-half
-    shl-half
+    (λ c. search needs)
+    (λ c. search needs)
     cast-result
     sub-result
     sub-result-2

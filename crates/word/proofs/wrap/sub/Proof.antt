@@ -6,18 +6,6 @@ use Rattle.word.proofs.Laws.Wrap.{subWrap-signed}
 use Rattle.word.proofs.wrap.sub.Statement.{statement}
 use Rattle.word.proofs.wrap.sub.Tie as tie
 
-to-bits-requires : tie.Need-to-bits-requires
-to-bits-requires c κs = search needs
-
-to-bits-requires-2 : tie.Need-to-bits-requires-2
-to-bits-requires-2 c κs = search needs
-
-wrapping-sub-u64-requires : tie.Need-wrapping-sub-u64-requires
-wrapping-sub-u64-requires c κs = search needs
-
-complement-requires : tie.Need-complement-requires
-complement-requires c κs = search needs
-
 returns : tie.Need-returns
 returns c =
     let start = c .before .before .before .before in
@@ -36,8 +24,8 @@ pub sub-spec : {M : Type 1} → statement M
 sub-spec =
     tie.close
     (tie.spec
-    to-bits-requires
-    to-bits-requires-2
-    wrapping-sub-u64-requires
-    complement-requires
+    (λ c κs. search needs)
+    (λ c κs. search needs)
+    (λ c κs. search needs)
+    (λ c κs. search needs)
     returns)

@@ -25,9 +25,6 @@ get-requires c κs = tt
 is-zero-requires : tie.Need-is-zero-requires Inv-loop μ-loop
 is-zero-requires c κs = tt
 
-add-i : tie.Need-add-i Inv-loop μ-loop
-add-i c = search needs
-
 loop-less : tie.Need-loop-less Inv-loop μ-loop
 loop-less c = omega arith
 
@@ -59,7 +56,7 @@ is-empty-spec =
     loop-holds
     get-requires
     is-zero-requires
-    add-i
+    (λ c. search needs)
     loop-less
     loop-again
     returns

@@ -8,15 +8,6 @@ use borrow.Author.Needs.{needs}
 use Rattle.policy.proofs.row.Cache.set.Statement.{statement}
 use Rattle.policy.proofs.row.Cache.set.Tie as tie
 
-mul-word : tie.Need-mul-word
-mul-word c = search needs
-
-element-set-from-word : tie.Need-element-set-from-word
-element-set-from-word c = search needs
-
-returns : tie.Need-returns
-returns c = search needs
-
 returns-2 : tie.Need-returns-2
 returns-2 c =
     let a = c .before .args in
@@ -24,4 +15,4 @@ returns-2 c =
     sym (set-out (a .t1 .words) (a .i) (a .word) (omega arith))
 
 pub set-spec : {M : Type 1} → statement M
-set-spec = tie.close (tie.spec mul-word element-set-from-word returns returns-2)
+set-spec = tie.close (tie.spec (λ c. search needs) (λ c. search needs) (λ c. search needs) returns-2)

@@ -5,11 +5,8 @@ use Rattle.word.proofs.Signed.{back-ok}
 use Rattle.word.proofs.kind.Pc.index.Statement.{statement}
 use Rattle.word.proofs.kind.Pc.index.Tie as tie
 
-below-requires : tie.Need-below-requires
-below-requires c κs = search needs
-
 returns : tie.Need-returns
 returns c = rw (back-ok (c .before .before .args .self .0) (c .before .struct-told .given .0 .1)) at (c .below .ensures)
 
 pub index-spec : {M : Type 1} → statement M
-index-spec = tie.close (tie.spec below-requires returns)
+index-spec = tie.close (tie.spec (λ c κs. search needs) returns)

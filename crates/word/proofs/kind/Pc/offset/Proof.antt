@@ -6,9 +6,6 @@ use Rattle.word.proofs.Signed.{back, back-ok}
 use Rattle.word.proofs.kind.Pc.offset.Statement.{statement}
 use Rattle.word.proofs.kind.Pc.offset.Tie as tie
 
-add-requires : tie.Need-add-requires
-add-requires c κs = search needs
-
 returns : tie.Need-returns
 returns c =
     let start = c .before .before in
@@ -16,4 +13,4 @@ returns c =
     back-ok (c .add .result) (c .add .ok) ∙ (rw (self, back (start .fits .by)) at (c .add .ensures))
 
 pub offset-spec : {M : Type 1} → statement M
-offset-spec = tie.close (tie.spec add-requires returns)
+offset-spec = tie.close (tie.spec (λ c κs. search needs) returns)

@@ -1,0 +1,80 @@
+-- Demand 3 (specs/Privacy.antt): what an accepted run leaves on either engine is the machine's run of the sheet's commands under the standard
+-- policy, from the same cells, and its lines stand in the output space; so the machine's theorem speaks of it.
+-- Assumes nothing.
+use mathlib.Core.Path.{_≡_, sym, ap, ap₂, _∙_}
+use mathlib.Core.List.{List}
+use Prim.Native.Nat.{ℕ}
+use lib.IntN.{ℤ}
+use lib.ListN.{length}
+use Rattle.program.specs.declared.Command.{Command}
+use Rattle.program.specs.Decode.{decode, accepted}
+use Rattle.machine.specs.Atom.{Atom, Line}
+use Rattle.machine.specs.Rule.{standard, fixed}
+use Rattle.machine.specs.State.{start}
+use Rattle.machine.specs.Run.{run}
+use Rattle.machine.proofs.Holds.{run-range, standard-range}
+use Rattle.machine.proofs.Privacy.{standard-private}
+use Rattle.engine.specs.declared.Ran as Engine
+use Rattle.engine.specs.Memory.{Memory, room}
+use Rattle.engine.specs.Ended.{Ended, begin, resultOf}
+use Rattle.engine.proofs.Pairs.{lines-read}
+use Rattle.policy.specs.Standard.{standardBytes}
+use Rattle.tagging.specs.Consult.{Tag}
+use Rattle.tagged.specs.Tagged.{left, tagged}
+use Rattle.claims.specs.Refusals.{Nothing, Checks, noneOwn, taggedOwn}
+use Rattle.claims.specs.Privacy.{cellsIn, linesIn, Ran, onPlain, onTagged, Claim}
+use Rattle.claims.proofs.Refusals.{plain-demand, tagged-demand}
+use Rattle.claims.proofs.Both.{Stops, plain-stops, tagged-stops}
+
+-- the machine's run that a sheet, cells and lines belong to
+record Runs (sheet : List ℕ) (cells : List Atom) (lines : List Line) : Type 0 where
+  commands : List Command
+  decoded : decode sheet ≡ accepted commands
+  room : ℕ
+  fuel : ℕ
+  are : lines ≡ run (fixed standard) room commands fuel (start cells) tt .state .lines
+
+stops-runs : (sheet : List ℕ) (m : Memory) (fuel : ℕ) (p : Engine.Ran) (after : Memory) → Stops sheet m fuel p after
+    → Runs sheet (cellsIn m) (linesIn p after)
+stops-runs sheet m fuel p after s =
+    record {
+      commands = s .commands;
+      decoded = s .decoded;
+      room = room (m .output);
+      fuel = fuel;
+      are =
+          ap₂ linesIn (s .summary-is) (s .left-is)
+          ∙ lines-read (resultOf (fixed standard) (s .commands) tt m fuel .state .lines) (m .output)
+          (run-range (fixed standard) (λ u. standard-range) (room (m .output)) (s .commands) fuel (begin m) tt (s .range) .lines);
+    }
+
+ran-runs : (sheet : List ℕ) {cells : List Atom} {lines : List Line} → Ran sheet cells lines → Runs sheet cells lines
+ran-runs sheet (onPlain m fuel p after e) = stops-runs sheet m fuel p after (plain-stops sheet m fuel p after e)
+ran-runs sheet (onTagged row size m handler fuel p u after handler′ e) =
+    stops-runs sheet m fuel p after (tagged-stops sheet m fuel row size handler p u after handler′ e)
+
+pub runs-private : Claim
+runs-private S sheet cells₁ cells₂ lines₁ lines₂ ran₁ ran₂ alike =
+    let r₁ = ran-runs sheet ran₁ in
+    let r₂ = ran-runs sheet ran₂ in
+    let read = sym (r₂ .decoded) ∙ r₁ .decoded in
+    let same : r₂ .commands ≡ r₁ .commands = cc in
+    rw (r₁ .are, r₂ .are, same)
+    (standard-private (r₁ .commands) S cells₁ cells₂ alike (r₁ .room) (r₂ .room) (r₁ .fuel) (r₂ .fuel) tt tt)
+
+-- ════════════════════════════════════════════════════════════════════════════════════════════
+-- What the claim covers: there is such a run wherever no limit is broken (demand 1)
+-- ════════════════════════════════════════════════════════════════════════════════════════════
+
+module _ (sheet : List ℕ) (m : Memory) (fuel : ℕ) where
+  pub plain-ran : Nothing (Checks sheet m fuel noneOwn) → (lines : List Line) × Ran sheet (cellsIn m) lines
+  plain-ran kept =
+      let (ran, u, after, e, stop, steps) = plain-demand sheet m fuel .otherwise kept in
+      (linesIn ran after, onPlain m fuel ran after e)
+
+  pub tagged-ran : (row handler : List ℤ) → length row ≡ 7 → Nothing (Checks sheet m fuel (taggedOwn standardBytes row handler))
+      → (lines : List Line) × Ran sheet (cellsIn m) lines
+  tagged-ran row handler size kept =
+      let (ran, u, after, e, stop, steps) = tagged-demand sheet m fuel standardBytes row handler .otherwise kept in
+      let space = tagged sheet standardBytes row m handler fuel .handler in
+      (linesIn ran after, onTagged row size m handler fuel ran u after space (ap (λ (x : Ended Tag). left x space) e))

@@ -1,0 +1,5 @@
+pub mod Refusals
+pub mod Both
+pub mod Privacy
+pub mod Pages
+pub mod Reading

@@ -1,0 +1,95 @@
+-- Demand 3 for pages: what the page of a job tells its reader. This file states it; proofs/PagesPrivate.antt and PagesRefused.antt show it.
+use Prim.Native.Nat.{ℕ, _<_}
+use mathlib.Core.Path.{_≡_}
+use mathlib.Core.List.{List, []}
+use lib.ListN.{drop, getD}
+use Rattle.machine.specs.Atom.{Atom}
+use Rattle.machine.specs.Claim.{Alike, OneStartsOther}
+use Rattle.step.specs.Lent.{Cells, cells}
+use Rattle.engine.specs.declared.Answer.{Answer}
+use Rattle.engine.specs.declared.Answer.the-variants as Answer
+use Rattle.engine.specs.Layout.{cellsOf}
+use Rattle.report.specs.Job.{Heard, Ending, sheet, readJob}
+use Rattle.report.specs.Job as Job
+use Rattle.report.specs.Lines.{jobText, refusedText}
+use Rattle.report.specs.Page.{endFor, pageOf}
+
+-- what a job says
+abbrev pub readerOf : List ℕ → ℕ
+readerOf job = readJob job .heard .reader
+
+abbrev pub allowanceOf : List ℕ → ℕ
+allowanceOf job = readJob job .heard .allowance
+
+-- the cells that it gives
+abbrev pub cellWordsOf : Heard → Cells
+cellWordsOf h = cells (h .values) (h .labels)
+
+abbrev pub cellsGiven : List ℕ → List Atom
+cellsGiven job = cellsOf (cellWordsOf (readJob job .heard))
+
+-- the rest after 43; a bad job has no sheet
+abbrev pub sheetFrom : List ℕ → Ending → List ℕ
+sheetFrom job (Job.bad offset) = []
+sheetFrom job (sheet start) = drop start job
+
+abbrev pub sheetOf : List ℕ → List ℕ
+sheetOf job = sheetFrom job (readJob job .ending)
+
+-- bad at an offset; refused with a number and a place; or its sheet is run
+pub data Fate : Type 0 where
+  bad : ℕ → Fate
+  refused : ℕ → ℕ → Fate
+  ran : Fate
+
+abbrev pub answered : Answer → Fate
+answered (Answer.Refused r) = refused (r .code) (r .position)
+answered (Answer.Stopped x) = ran
+
+abbrev pub fateFrom : List ℕ → Heard → Ending → Fate
+fateFrom job h (Job.bad offset) = bad offset
+fateFrom job h (sheet start) = answered (endFor (cellWordsOf h) (h .allowance) (drop start job) .ended .answer)
+
+unfoldable pub fateOf : List ℕ → Fate
+fateOf job = fateFrom job (readJob job .heard) (readJob job .ending)
+
+-- two jobs that are run, with the same sheet and reader's set and with cells that are alike for that set, whatever their allowances: of
+-- the two pages one is the start of the other
+abbrev pub Claim : Type 0
+Claim =
+    (job₁ job₂ : List ℕ) → fateOf job₁ ≡ ran → fateOf job₂ ≡ ran →
+    sheetOf job₁ ≡ sheetOf job₂ → readerOf job₁ ≡ readerOf job₂ →
+    Alike (readerOf job₁) (cellsGiven job₁) (cellsGiven job₂) →
+    OneStartsOther (pageOf job₁) (pageOf job₂)
+
+-- a job that is not run prints one line, which says so and nothing else
+abbrev pub Says : List ℕ → Fate → Type 0
+Says page (bad offset) = page ≡ jobText offset
+Says page (refused number place) = page ≡ refusedText number place
+Says page ran = Unit
+
+abbrev pub Unrun : Type 0
+Unrun = (job : List ℕ) → Says (pageOf job) (fateOf job)
+
+-- a job that is not bad: its sheet starts somewhere
+abbrev pub Read : List ℕ → Type 0
+Read job = (start : ℕ) × (readJob job .ending ≡ sheet start)
+
+-- its bytes are below 256
+abbrev pub Bytes : List ℕ → Type 0
+Bytes job = (i : ℕ) → getD job i 0 < 256
+
+-- whether a job is run or how it is refused depends on its sheet and its allowance only: of its cells it tells nothing
+abbrev pub Refusals : Type 0
+Refusals =
+    (job₁ job₂ : List ℕ) → Bytes job₁ → Bytes job₂ → Read job₁ → Read job₂ →
+    sheetOf job₁ ≡ sheetOf job₂ → allowanceOf job₁ ≡ allowanceOf job₂ →
+    fateOf job₁ ≡ fateOf job₂
+
+-- so with one allowance nothing is left to except but a bad job
+abbrev pub Whole : Type 0
+Whole =
+    (job₁ job₂ : List ℕ) → Bytes job₁ → Bytes job₂ → Read job₁ → Read job₂ →
+    sheetOf job₁ ≡ sheetOf job₂ → allowanceOf job₁ ≡ allowanceOf job₂ → readerOf job₁ ≡ readerOf job₂ →
+    Alike (readerOf job₁) (cellsGiven job₁) (cellsGiven job₂) →
+    OneStartsOther (pageOf job₁) (pageOf job₂)

@@ -1,0 +1,47 @@
+-- Demand 3: what a reader of a set of owners sees of two whole runs, each on either engine, from starts that its engine accepts. A run is
+-- what the engines' contracts say of it (`plain`, `tagged`). This file states it; proofs/Private.antt shows it.
+use Prim.Native.Nat.{ℕ}
+use mathlib.Core.Path.{_≡_}
+use mathlib.Core.List.{List}
+use lib.IntN.{ℤ}
+use lib.ListN.{length}
+use Rattle.machine.specs.Atom.{Atom, Line}
+use Rattle.machine.specs.Claim.{view, Alike, OneStartsOther}
+use Rattle.engine.specs.declared.Ran as Engine
+use Rattle.engine.specs.declared.Answer.the-variants as Answer
+use Rattle.engine.specs.Memory.{Memory}
+use Rattle.engine.specs.Layout.{cellsOf, linesOf}
+use Rattle.engine.specs.Ended.{ended}
+use Rattle.policy.specs.Standard.{standardBytes}
+use Rattle.plain.specs.Plain.{plain}
+use Rattle.tagging.specs.Consult.{Tag}
+use Rattle.tagged.specs.Tagged.{left, tagged}
+
+abbrev pub cellsIn : Memory → List Atom
+cellsIn m = cellsOf (m .lent .cells)
+
+-- the lines that a run left: so many as its result says were written, in the lent output space
+abbrev pub linesIn : Engine.Ran → Memory → List Line
+linesIn ran m = linesOf (ran .machine .lines) (m .output)
+
+-- a sheet was run, from which cells and with which lines: an engine accepted the start and the run met a stop. Of the lent memory, the
+-- allowance and, on the tag engine, the rule memory of seven words and the handler space nothing is asked but that; its table is the
+-- standard one
+pub data Ran (sheet : List ℕ) : List Atom → List Line → Type 0 where
+  onPlain :
+      (m : Memory) (fuel : ℕ) (ran : Engine.Ran) (after : Memory)
+      → plain sheet m fuel ≡ ended (Answer.Stopped ran) tt after
+      → Ran sheet (cellsIn m) (linesIn ran after)
+  onTagged :
+      (row : List ℤ) → length row ≡ 7
+      → (m : Memory) (handler : List ℤ) (fuel : ℕ) (ran : Engine.Ran) (u : Tag) (after : Memory) (handler′ : List ℤ)
+      → tagged sheet standardBytes row m handler fuel ≡ left (ended (Answer.Stopped ran) u after) handler′
+      → Ran sheet (cellsIn m) (linesIn ran after)
+
+-- for every set of owners, every sheet and any two runs of it from cells that are alike for the set, each on either engine: of the two
+-- views one is the start of the other
+abbrev pub Claim : Type 0
+Claim =
+    (S : ℕ) (sheet : List ℕ) (cells₁ cells₂ : List Atom) (lines₁ lines₂ : List Line) →
+    Ran sheet cells₁ lines₁ → Ran sheet cells₂ lines₂ → Alike S cells₁ cells₂ →
+    OneStartsOther (view S lines₁) (view S lines₂)

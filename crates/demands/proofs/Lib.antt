@@ -1,4 +1,0 @@
-pub mod Accepted
-pub mod Refusals
-pub mod Both
-pub mod Private

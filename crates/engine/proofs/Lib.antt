@@ -1,0 +1,7 @@
+pub mod Limits
+pub mod Link
+pub mod Act
+pub mod Whole
+pub mod Accepted
+pub mod Going
+pub mod Pairs

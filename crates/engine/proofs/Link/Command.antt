@@ -1,0 +1,261 @@
+-- Each command on words finds what the machine's command asks with, and does what it does, under any rule.
+-- Assumes nothing.
+use mathlib.Core.Path.{_≡_, refl, ap, ap₂, _∙_}
+use mathlib.Core.Bool.{Bool, true, false}
+use mathlib.Core.List.{List, _∷_, map}
+use Prim.Native.Nat.{ℕ, zero, suc, _-_, _≤_, _<_}
+use native.Mathlib.Omega.{arith}
+use native.Mathlib.Numerals.{add-one}
+use lib.IntN.{ℤ, pos, negsuc, _+ℤ_}
+use lib.ListN.{length, length-append, length-map}
+use lib.Dec.{ltb, eqb·suc-zero}
+use borrow.Author.Tests.{ltb-true}
+use Rattle.word.specs.Wrap.{Signed, addWrap, subWrap}
+use Rattle.program.specs.declared.Command.{Command}
+use Rattle.program.specs.declared.Command.the-variants.{Add, Sub, Pop, Output, Push, Load, Store, Jump, Bnz, Call, Ret}
+use Rattle.machine.specs.Atom.{Atom, Entry, value, frame, Line}
+use Rattle.machine.specs.Rule.{missing}
+use Rattle.machine.specs.State.{State, outputFull, stackFull}
+use Rattle.machine.specs.Step.{Outcome, Request, ask, provided, withValues, stackLimit, request, of, atom, next, printing, branch}
+use Rattle.stack.specs.Words.{machine, pushed, dropped, gone, slotAt}
+use Rattle.step.specs.declared.find.Inputs.{Inputs}
+use Rattle.step.specs.Lent.{Cells, cells, Lent, After, after, OnStack, withStack}
+use Rattle.step.specs.Find.{first, second, loadFinding, storeFinding, twoValues, oneValue, callValues, oneFrame, loadCell, storeCell, findOf}
+use Rattle.step.specs.Effect.{sumOf, branchOf, refilling, arithEffect, popEffect, outputEffect, pushEffect}
+use Rattle.step.specs.Effect.{loadEffect, storeEffect, jumpEffect, bnzEffect, callEffect, effectOf}
+use Rattle.engine.specs.Memory.{output}
+use Rattle.engine.specs.Memory as Memory
+use Rattle.engine.specs.Act.{emitOf}
+use Rattle.engine.specs.Ended.{machineOf}
+use Rattle.engine.proofs.Link.Stack.{Held, held-tail, topSlot, below, slot-top, slot-below, stack-pushed}
+use Rattle.engine.proofs.Link.Record.{addWrap-id, dropped-entry, dropped-entries, pushed-entry, printed-line, following-next}
+use Rattle.engine.proofs.Link.Represents.{Represents, Sound, Simulates}
+use Rattle.engine.proofs.Link.Needs.{value-needed, values-needed, frame-needed, cell-needed, room-needed}
+use Rattle.engine.proofs.Link.Runs.{cell-read, label-read, cell-stored, line-laid}
+use Rattle.engine.proofs.Link.Carried.{stop-simulates, carried, goto-carried, refill-carried}
+use Rattle.engine.proofs.Link.Looks.{found, effect, Looks}
+
+branch-is : (n pc operand : ℤ) → Signed 64 (pc +ℤ pos 1) → Signed 64 (pc +ℤ operand) → branchOf n pc operand ≡ branch n pc operand
+unfolding branchOf
+branch-is (pos zero) pc operand on to = addWrap-id pc (pos 1) on
+branch-is (pos (suc n)) pc operand on to = rw eqb·suc-zero (addWrap-id pc operand to)
+branch-is (negsuc n) pc operand on to = addWrap-id pc operand to
+
+module _ {room : ℕ} {o₀ : Memory.Output} {s : State} {l : Lent} {o : Memory.Output} (r : Represents o₀ s (machineOf s) l o)
+    (h : Sound room o₀ s l) (on : Signed 64 (s .pc .number +ℤ pos 1)) where
+  -- an outcome of the machine, and what is left on words
+  abbrev Sim : Outcome → After → Type 0
+  Sim = Simulates room o₀ (machineOf s) l o
+
+  -- what the command c asks, and what it finds on words
+  abbrev Asks : Command → Request → Inputs → Type 0
+  Asks c = Looks c (machineOf s) l room o₀ o
+
+  abbrev Found : Command → Type 0
+  Found c = Asks c (request room c s) (found c (machineOf s) l)
+
+  first-is : first (machineOf s) (l .stack) ≡ topSlot (s .stack)
+  first-is = slot-top (s .stack) (r .stack) (h .labels .stack) (h .depth) (h .space)
+
+  second-is : second (machineOf s) (l .stack) ≡ topSlot (below (s .stack))
+  second-is = slot-below (s .stack) (r .stack) (h .labels .stack) (h .depth) (h .space)
+
+  values : l .cells .values ≡ map (λ a. a .number) (s .memory)
+  values = ap (λ (c : Cells). c .values) (r .cells)
+
+  labels : l .cells .labels ≡ map (λ a. pos (a .label)) (s .memory)
+  labels = ap (λ (c : Cells). c .labels) (r .cells)
+
+  count : length (l .cells .values) ≡ length (s .memory)
+  count = ap length values ∙ length-map (s .memory) (λ a. a .number)
+
+  -- what is left of the stack after one entry is dropped, after two
+  under-one : {e : Entry} {rest : List Entry} → s .stack ≡ e ∷ rest → Held rest (l .stack)
+  under-one {e} {rest} g = held-tail e rest (rw g at (r .stack))
+
+  under-two : {d e : Entry} {rest : List Entry} → s .stack ≡ d ∷ e ∷ rest → Held rest (l .stack)
+  under-two {d} {e} {rest} g = held-tail e rest (under-one g)
+
+  depth : {es : List Entry} → s .stack ≡ es → length es ≤ stackLimit
+  depth g = rw g at (h .depth)
+
+  -- the record with one entry more
+  grown : (n : ℕ) → n < stackLimit
+      → pushed (machine (s .pc .number) (s .pc .label) n (length (s .lines))) ≡ machine (s .pc .number) (s .pc .label) (suc n) (length (s .lines))
+  grown n fits = pushed-entry (s .pc .number) (s .pc .label) n (length (s .lines)) fits
+
+  -- a value in place of the top, and of the one below it
+  refill-one : (rest : List Entry) (a : Atom) (n : ℤ) (label p : ℕ) → s .stack ≡ value a ∷ rest
+      → Sim (next s p (value (atom n label) ∷ rest)) (withStack l (refilling (dropped (machineOf s)) (l .stack) n label p))
+  refill-one rest a n label p e =
+      let d : suc (length rest) ≤ stackLimit = depth e in
+      let size : length (s .stack) ≡ suc (length rest) = ap length e in
+      let kind : slotAt (l .stack) (length (s .stack)) 0 .kind ≡ 0 = rw (first-is, e) in
+      refill-carried room r rest n label p 0 on (h .space) (omega arith) (under-one e) (omega arith) kind
+      (rw e (dropped-entry _ _ _ _))
+
+  refill-two : (rest : List Entry) (a b : Atom) (n : ℤ) (label p : ℕ) → s .stack ≡ value a ∷ value b ∷ rest
+      → Sim (next s p (value (atom n label) ∷ rest)) (withStack l (refilling (dropped (dropped (machineOf s))) (l .stack) n label p))
+  refill-two rest a b n label p e =
+      let d : suc (suc (length rest)) ≤ stackLimit = depth e in
+      let size : length (s .stack) ≡ suc (suc (length rest)) = ap length e in
+      let kind : slotAt (l .stack) (length (s .stack)) 1 .kind ≡ 0 = rw (second-is, e) in
+      refill-carried room r rest n label p 1 on (h .space) (omega arith) (under-two e) (omega arith) kind
+      (rw e (dropped-entries _ _ _ _))
+
+  -- ══════════════════════════════════════════════════════════════════════════════════════════
+  -- Add and Sub
+  -- ══════════════════════════════════════════════════════════════════════════════════════════
+
+  -- what both ask and do, with the sum of either
+  arith-asks : (c : Command) (sum : ℤ → ℤ → ℤ)
+      → (let m = machineOf s in let n = sum (first m (l .stack) .number) (second m (l .stack) .number) in
+      (p label : ℕ) → effect c m l p label ≡ withStack l (refilling (dropped (dropped m)) (l .stack) n label p))
+      → Asks c (withValues (s .stack) (λ a b rest.
+      ask (of a) (of b) missing (λ p label. next s p (value (atom (sum (a .number) (b .number)) label) ∷ rest))))
+      (twoValues (machineOf s) (l .stack))
+  unfolding twoValues
+  arith-asks c sum g =
+      rw (first-is, second-is) (values-needed (Asks c) (s .stack) _ _ _ refl (λ a b rest e. (
+        rw e,
+        λ p label. rw (g p label, first-is, second-is, ap topSlot e, ap (λ es. topSlot (below es)) e) (refill-two rest a b _ label p e),
+      )))
+
+  pub add-looks : Found Add
+  unfolding request findOf effectOf arithEffect sumOf
+  add-looks = arith-asks Add addWrap (λ p label. refl)
+
+  pub sub-looks : Found Sub
+  unfolding request findOf effectOf arithEffect sumOf
+  sub-looks = arith-asks Sub subWrap (λ p label. refl)
+
+  -- ══════════════════════════════════════════════════════════════════════════════════════════
+  -- Pop, Output and Push
+  -- ══════════════════════════════════════════════════════════════════════════════════════════
+
+  pub pop-looks : Found Pop
+  unfolding request findOf oneValue effectOf popEffect
+  pop-looks =
+      rw first-is (value-needed (Asks Pop) (s .stack) _ _ _ refl (λ a rest e.
+      (rw e, λ p _. goto-carried room r _ rest (rw (e, dropped-entry) (following-next _ _ _ _ p on)) (under-one e))))
+
+  -- the line is written where there is room
+  line-written : (a : Atom) (rest : List Entry) (p label : ℕ) (b : Bool) → s .stack ≡ value a ∷ rest → ltb (length (s .lines)) room ≡ b
+      → Sim (provided b outputFull (printing s p rest (record { number = a .number; label = label })))
+      (after (outputEffect p label (machineOf s) (l .stack)) l)
+  unfolding outputEffect emitOf
+  line-written a rest p label false e t = (rw t, refl)
+  line-written a rest p label true e t =
+      let line : Line = record { number = a .number; label = label } in
+      let fits : length (s .lines) < room = ltb-true _ _ t in
+      rw (t, first-is, e) (
+        refl,
+        record {
+          machine = rw (dropped-entry, following-next _ _ _ _ p on, printed-line _ _ _ _ room fits, length-append, add-one);
+          stack = under-one e;
+          cells = r .cells;
+          output =
+              ap₂ output
+              (line-laid (λ x. x .number) (s .lines) line (o₀ .numbers) (ap (λ (x : Memory.Output). x .numbers) (r .output)) (omega (arith, h .numbersFit)))
+              (line-laid (λ x. pos (x .label)) (s .lines) line (o₀ .labels) (ap (λ (x : Memory.Output). x .labels) (r .output)) (omega (arith, h .labelsFit)));
+        },
+        under-one e,
+      )
+
+  pub output-looks : Found Output
+  unfolding request findOf oneValue effectOf
+  output-looks =
+      rw first-is (value-needed (Asks Output) (s .stack) _ _ _ refl (λ a rest e.
+      (rw e, λ p label. line-written a rest p label (ltb (length (s .lines)) room) e refl)))
+
+  pub push-looks : (n : ℤ) → Found (Push n)
+  unfolding request findOf effectOf pushEffect
+  push-looks n = (
+    refl,
+    λ p label.
+        room-needed (λ o (x : OnStack). Sim o (withStack l x)) (ltb (length (s .stack)) stackLimit) stackFull _ _ _
+        (λ t.
+        let fits : length (s .stack) < stackLimit = ltb-true _ _ t in
+        goto-carried room r _ _
+        (rw (pushed-entry _ _ (length (s .stack)) _ fits) (following-next _ _ _ _ p on))
+        (stack-pushed _ _ _ (value (atom n label)) (s .stack) (l .stack) fits (h .space) (r .stack)))
+        (stop-simulates room o₀ (machineOf s) l o stackFull),
+  )
+
+  -- ══════════════════════════════════════════════════════════════════════════════════════════
+  -- Load and Store
+  -- ══════════════════════════════════════════════════════════════════════════════════════════
+
+  pub load-looks : Found Load
+  unfolding request findOf loadCell effectOf loadEffect
+  load-looks =
+      rw first-is (value-needed (Asks Load) (s .stack) _ _ _ refl (λ a rest e.
+      rw (ap topSlot e, count) (cell-needed (Asks Load) (s .memory) (a .number) _
+      (λ j. loadFinding (machineOf s) l j) refl
+      (λ i c at g. (
+        rw (first-is, e, label-read labels (h .labels .memory) at),
+        λ p label.
+            rw (first-is, ap topSlot e, count, g, cell-read (λ c. c .number) values at) (refill-one rest a _ label p e),
+      )))))
+
+  pub store-looks : Found Store
+  unfolding request findOf storeCell effectOf storeEffect
+  store-looks =
+      rw (first-is, second-is) (values-needed (Asks Store) (s .stack) _ _ _ refl (λ a b rest e.
+      rw (ap topSlot e, count) (cell-needed (Asks Store) (s .memory) (a .number) _
+      (λ j. storeFinding (machineOf s) l j) refl
+      (λ i c at g. (
+        rw (first-is, second-is, e, label-read labels (h .labels .memory) at),
+        λ p label.
+            let stored : Atom = atom (b .number) label in
+            rw (first-is, ap topSlot e, count, g, second-is, ap (λ es. topSlot (below es)) e)
+            (carried room r _ rest _
+            (rw (e, dropped-entries) (following-next _ _ _ _ p on))
+            (under-two e)
+            (ap₂ cells
+            (cell-stored (λ c. c .number) (s .memory) i stored values)
+            (cell-stored (λ c. pos (c .label)) (s .memory) i stored labels))),
+      )))))
+
+  -- ══════════════════════════════════════════════════════════════════════════════════════════
+  -- Jump, Bnz, Call and Ret
+  -- ══════════════════════════════════════════════════════════════════════════════════════════
+
+  pub jump-looks : Found Jump
+  unfolding request findOf oneValue effectOf jumpEffect gone
+  jump-looks =
+      rw first-is (value-needed (Asks Jump) (s .stack) _ _ _ refl (λ a rest e.
+      (rw e, λ p _. goto-carried room r (atom (a .number) p) rest (rw (first-is, e, dropped-entry)) (under-one e))))
+
+  pub bnz-looks : (n : ℤ) → Signed 64 (s .pc .number +ℤ n) → Found (Bnz n)
+  unfolding request findOf oneValue effectOf bnzEffect gone
+  bnz-looks n to =
+      rw first-is (value-needed (Asks (Bnz n)) (s .stack) _ _ _ refl (λ a rest e. (
+        rw e,
+        λ p _.
+            goto-carried room r (atom (branch (a .number) (s .pc .number) n) p) rest
+            (rw (first-is, e, dropped-entry, branch-is (a .number) (s .pc .number) n on to)) (under-one e),
+      )))
+
+  pub ret-looks : Found Ret
+  unfolding request findOf oneFrame effectOf jumpEffect gone
+  ret-looks =
+      rw first-is (frame-needed (Asks Ret) (s .stack) _ _ _ refl (λ a rest e.
+      (rw e, λ p _. goto-carried room r (atom (a .number) p) rest (rw (first-is, e, dropped-entry)) (under-one e))))
+
+  pub call-looks : Found Call
+  unfolding request findOf callValues effectOf callEffect gone
+  call-looks =
+      rw (first-is, second-is) (values-needed (Asks Call) (s .stack) _ _ _ refl (λ a b rest e. (
+        rw e,
+        λ p label.
+            let d : suc (suc (length rest)) ≤ stackLimit = depth e in
+            let one : length rest < stackLimit = omega arith in
+            let two : suc (length rest) < stackLimit = omega arith in
+            let back = atom (s .pc .number +ℤ pos 1) label in
+            goto-carried room r (atom (a .number) p) (value b ∷ frame back ∷ rest)
+            (rw (first-is, e, dropped-entries, grown (length rest) one, grown (suc (length rest)) two))
+            (rw (second-is, e, dropped-entries, addWrap-id (s .pc .number) (pos 1) on, grown (length rest) one)
+            (stack-pushed _ _ _ (value b) (frame back ∷ rest) (l .stack) two (h .space)
+            (stack-pushed _ _ _ (frame back) rest (l .stack) one (h .space) (under-two e)))),
+      )))

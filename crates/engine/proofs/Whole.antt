@@ -1,0 +1,191 @@
+-- The run on lent words is the machine's run: the loop over a loaded program, under a ruler that answers on words as another does in the
+-- machine, ends as the run under that one does, and leaves its words.
+-- Assumes nothing.
+use mathlib.Core.Path.{_≡_, refl, sym, ap, ap₂, _∙_}
+use mathlib.Core.Bool.{Bool, true, false}
+use mathlib.Core.List.{List, [], _∷_}
+use mathlib.Core.Option.{none, some}
+use Prim.Native.Nat.{ℕ, zero, suc, _+_, _≤_}
+use native.Mathlib.Omega.{arith}
+use lib.IntN.{ℤ, pos, negsuc}
+use lib.ListN.{length, getElem?}
+use lib.Dec.{ltb, eqb}
+use borrow.Author.Tests.{eq-eqb, ne-eqb, ltb-true, ltb-false}
+use Rattle.word.specs.declared.number.Index.the-variants.{At, Outside}
+use Rattle.word.specs.Number.{naturalOf, indexOf}
+use Rattle.word.specs.Lay.{laid}
+use Rattle.word.specs.Wrap.{Signed}
+use Rattle.word.proofs.Lay.{length-laid}
+use Rattle.label.specs.Label.{InRange}
+use Rattle.program.specs.declared.Command.{Command}
+use Rattle.program.specs.Command.{opcode, codeOf, operand}
+use Rattle.program.specs.Space.{programWords}
+use Rattle.program.proofs.Words.{code-at, operand-at, element-below}
+use Rattle.machine.specs.Rule.{Ruler, rules}
+use Rattle.machine.specs.State.{State, Stop, end, fuelSpent, pcOutside, stopNumber}
+use Rattle.machine.specs.Step.{Outcome, stopped, stepped, execute}
+use Rattle.machine.specs.Run.{atEnd, asked, Result, result, run, along}
+use Rattle.machine.specs.Stopped.{CommandAt, NoCommandAt}
+use Rattle.machine.specs.Holds.{ProgramHas, Answers}
+use Rattle.machine.proofs.Stops.{stop-other}
+use Rattle.machine.proofs.Execute as Execute
+use Rattle.machine.proofs.Step.{gives-stepped, step-at, asked-at, step-none, asked-none}
+use Rattle.machine.proofs.Run.{run-end, run-spent, run-stopped, run-stepped, along-end, along-stopped, along-stepped}
+use Rattle.machine.proofs.Holds.{place-lt, step-range}
+use Rattle.stack.specs.declared.Machine.{Machine}
+use Rattle.stack.specs.Words.{carriedOut}
+use Rattle.step.specs.Lent.{Lent, lent}
+use Rattle.engine.specs.Memory.{Output}
+use Rattle.engine.specs.Layout.{stackWords, cellWords, linesLaid, stackLaid, stackAfter}
+use Rattle.engine.specs.Act.{WordRuler, Acted, actOf}
+use Rattle.engine.specs.Loop.{Done, done, ran, isCount, endOr, onward, loopOf}
+use Rattle.engine.specs.Ended.{machineOf, summary}
+use Rattle.engine.proofs.Link.Stack.{stackWords-length}
+use Rattle.engine.proofs.Link.Represents.{Represents, Sound, Simulates}
+use Rattle.engine.proofs.Act.{Follows, act-both}
+
+-- ════════════════════════════════════════════════════════════════════════════════════════════
+-- Where the place stands
+-- ════════════════════════════════════════════════════════════════════════════════════════════
+
+-- a command stands at the place, the place is the end, or neither
+data Place (cs : List Command) (z : ℤ) : Type 0 where
+  inside : (i : ℕ) (c : Command) → indexOf z (length cs) ≡ At i → getElem? cs i ≡ some c → CommandAt cs z c → Place cs z
+  atTheEnd : indexOf z (length cs) ≡ Outside → atEnd (length cs) z ≡ true → Place cs z
+  beyond : indexOf z (length cs) ≡ Outside → atEnd (length cs) z ≡ false → NoCommandAt cs z → Place cs z
+
+element-none : (cs : List Command) (i : ℕ) → length cs ≤ i → getElem? cs i ≡ none
+element-none [] i h = refl
+element-none (c ∷ cs) zero h = absurd (omega arith)
+element-none (c ∷ cs) (suc i) h = element-none cs i (omega arith)
+
+placed : (cs : List Command) (z : ℤ) → Place cs z
+unfolding indexOf
+placed cs (negsuc i) = beyond refl refl refl
+placed cs (pos i) = go (ltb i (length cs)) (eqb i (length cs)) refl refl
+  where
+    go : (b d : Bool) → ltb i (length cs) ≡ b → eqb i (length cs) ≡ d → Place cs (pos i)
+    go true d t e = let x = element-below cs i (ltb-true i (length cs) t) in inside i (x .0) (rw t) (x .1) (x .1)
+    go false true t e = atTheEnd (rw t) e
+    go false false t e = beyond (rw t) e (element-none cs i (ltb-false i (length cs) t))
+
+-- a program does not end where a command stands
+going-at : (cs : List Command) (z : ℤ) (c : Command) → CommandAt cs z c → atEnd (length cs) z ≡ false
+going-at cs (pos i) c e = ne-eqb i (length cs) (λ h. let g = place-lt cs i c e in omega arith)
+going-at cs (negsuc i) c e = refl
+
+-- the test for the end, on words and in the machine
+end-is : (z : ℤ) (n : ℕ) → isCount (naturalOf z) n ≡ atEnd n z
+end-is (pos i) n = refl
+end-is (negsuc i) n = refl
+
+-- ════════════════════════════════════════════════════════════════════════════════════════════
+-- The loop
+-- ════════════════════════════════════════════════════════════════════════════════════════════
+
+-- the words of a result, with the stack space
+abbrev pub ending : {R : Type 0} → Output → Result R → List ℤ → Done R
+ending o₀ r space = done (summary r) (r .ruler) (lent space (cellWords (r .state .memory))) (linesLaid (r .state .lines) o₀)
+
+module _ {R : Type 0} (ω : WordRuler R) (ρ : Ruler R) (follows : Follows ω ρ) (answers : (u : R) → Answers InRange (rules ρ u))
+    (cs : List Command) (program₀ : List ℤ) (room : ℕ) (o₀ : Output) (has : ProgramHas (Signed 64) cs) where
+  abbrev looped : ℕ → ℕ → Machine → R → Lent → Output → Done R
+  looped fuel n m u l o = loopOf ω (length cs) room (laid (programWords cs) program₀) fuel n m u l o
+
+  abbrev whole : ℕ → State → R → List ℤ → Done R
+  whole fuel s u space = ending o₀ (run ρ room cs fuel s u) (stackAfter ρ room cs fuel s u space)
+
+  -- from every state that words hold, the loop ends as the run does
+  abbrev Ends : ℕ → Type 0
+  Ends fuel =
+      (s : State) (m : Machine) (u : R) (l : Lent) (o : Output) (n : ℕ) → Represents o₀ s m l o → Sound room o₀ s l → s .steps ≡ n
+      → looped fuel n m u l o ≡ whole fuel s u (l .stack)
+
+  module _ (s : State) (u : R) (l : Lent) (o : Output) (n : ℕ) (r : Represents o₀ s (machineOf s) l o) (e : s .steps ≡ n) where
+    abbrev m : Machine
+    m = machineOf s
+
+    at-end : (other : ℕ) → atEnd (length cs) (s .pc .number) ≡ true → endOr m (length cs) other ≡ 0
+    unfolding endOr
+    at-end other t = rw (end-is (s .pc .number) (length cs), t)
+
+    not-end : (other : ℕ) → atEnd (length cs) (s .pc .number) ≡ false → endOr m (length cs) other ≡ other
+    unfolding endOr
+    not-end other t = rw (end-is (s .pc .number) (length cs), t)
+
+    -- where both stop, with v kept by the ruler
+    stops : (fuel : ℕ) (x : Stop) (v : R) {k : ℕ} → k ≡ stopNumber x → run ρ room cs fuel s u ≡ result x s v
+        → stackAfter ρ room cs fuel s u (l .stack) ≡ l .stack → done (ran m k n) v l o ≡ whole fuel s u (l .stack)
+    stops fuel x v a b c = rw (a, b, c, ← e, ← r .cells, ← r .output)
+
+    ends-none : looped 0 n m u l o ≡ whole 0 s u (l .stack)
+    unfolding loopOf along
+    ends-none = go (atEnd (length cs) (s .pc .number)) refl
+      where
+        go : (b : Bool) → atEnd (length cs) (s .pc .number) ≡ b → done (ran m (endOr m (length cs) 1) n) u l o ≡ whole 0 s u (l .stack)
+        go true g = stops 0 end u (at-end 1 g) (run-end ρ room cs 0 s u g) refl
+        go false g = stops 0 fuelSpent u (not-end 1 g) (run-spent ρ room cs s u g) refl
+
+    module _ (fuel : ℕ) (h : Sound room o₀ s l) (on : Ends fuel) where
+      -- what is kept over a step
+      kept : (c : Command) → CommandAt cs (s .pc .number) c → (t : State) → execute (rules ρ u) room c s ≡ stepped t
+          → (k : Lent) → k .stack ≡ laid (stackWords (t .stack)) (l .stack) → Sound room o₀ t k
+      kept c at t d k e =
+          let change : Execute.Change room s t = rw d at (Execute.execute-sound (rules ρ u) room c s) in
+          let deep = change .depth (h .depth) in
+          let few : length (stackWords (t .stack)) ≤ length (l .stack) = rw (stackWords-length (t .stack)) (omega (arith, h .space)) in
+          let long : length (k .stack) ≡ length (l .stack) = ap length e ∙ length-laid (stackWords (t .stack)) (l .stack) few in
+          record {
+            space = omega (arith, h .space);
+            depth = deep;
+            labels = gives-stepped _ (step-at room s cs c at (rules ρ u) ∙ d) (step-range (rules ρ u) (answers u) room cs s (h .labels));
+            numbersFit = h .numbersFit;
+            labelsFit = h .labelsFit;
+          }
+
+      -- one command, which leaves a
+      ends-outcome : (c : Command) → CommandAt cs (s .pc .number) c → (out : Outcome) → execute (rules ρ u) room c s ≡ out
+          → (a : Acted R) → asked ρ room cs s u ≡ a .ruler → Simulates room o₀ m l o out (a .after)
+          → onward room a m o n (λ m′ u′ l′ o′. looped fuel (n + 1) m′ u′ l′ o′) ≡ whole (suc fuel) s u (l .stack)
+      ends-outcome c at (stopped x) d a left (w, same) =
+          let g = going-at cs (s .pc .number) c at in
+          let v = step-at room s cs c at (rules ρ u) ∙ d in
+          rw (w, stop-other x carriedOut (omega arith), same)
+          (stops (suc fuel) x (a .ruler) refl
+          (run-stopped ρ room cs s u g fuel x v ∙ ap (result x s) left)
+          (along-stopped ρ room cs stackLaid s u (l .stack) g fuel x v))
+      ends-outcome c at (stepped t) d a left (w, held, laying) =
+          let g = going-at cs (s .pc .number) c at in
+          let v = step-at room s cs c at (rules ρ u) ∙ d in
+          let change : Execute.Change room s t = rw d at (Execute.execute-sound (rules ρ u) room c s) in
+          let steps : t .steps ≡ n + 1 = let k = change .steps in omega arith in
+          rw (eq-eqb _ carriedOut w)
+          (on t _ (a .ruler) (a .after .lent) _ (n + 1) held (kept c at t d (a .after .lent) laying) steps
+          ∙ ap₂ (ending o₀)
+          (sym (run-stepped ρ room cs s u g fuel t v ∙ ap (run ρ room cs fuel t) left))
+          (ap (stackAfter ρ room cs fuel t (a .ruler)) laying
+          ∙ sym (along-stepped ρ room cs stackLaid s u (l .stack) g fuel t v
+          ∙ ap (λ x. stackAfter ρ room cs fuel t x (stackLaid t (l .stack))) left)))
+
+      ends-more : Place cs (s .pc .number) → looped (suc fuel) n m u l o ≡ whole (suc fuel) s u (l .stack)
+      unfolding loopOf
+      ends-more (atTheEnd i g) =
+          rw i
+          (stops (suc fuel) end u (at-end 2 g) (run-end ρ room cs (suc fuel) s u g)
+          (along-end ρ room cs stackLaid s u (l .stack) (suc fuel) g))
+      ends-more (beyond i g out) =
+          let v = step-none room s cs out (rules ρ u) in
+          rw i
+          (stops (suc fuel) pcOutside u (not-end 2 g)
+          (run-stopped ρ room cs s u g fuel pcOutside v ∙ ap (result pcOutside s) (asked-none room s cs out ρ u))
+          (along-stopped ρ room cs stackLaid s u (l .stack) g fuel pcOutside v))
+      ends-more (inside i c x found at) =
+          let both = act-both ω ρ follows room o₀ c s u l o r h cs has at in
+          rw (x, code-at cs program₀ i c found, operand-at cs program₀ i c found)
+          (ends-outcome c at (execute (rules ρ u) room c s) refl (actOf ω (pos (codeOf (opcode c))) (operand c) m u l)
+          (asked-at room s cs c at ρ u ∙ sym (both .1)) (both .0))
+
+  pub loop-run : (fuel : ℕ) → Ends fuel
+  loop-run zero s m u l o n r h e = rw (r .machine) (ends-none s u l o n (rw (r .machine) at r) e)
+  loop-run (suc fuel) s m u l o n r h e =
+      rw (r .machine) (ends-more s u l o n (rw (r .machine) at r) e fuel h (loop-run fuel) (placed cs (s .pc .number)))

@@ -1,0 +1,72 @@
+-- One command on lent words: what it finds, what a ruler says of it, what it does.
+use Prim.Native.Nat.{ℕ}
+use lib.IntN.{ℤ, pos}
+use lib.ListN.{set}
+use lib.Dec.{ltb, eqb}
+use Rattle.word.specs.Choose.{choose}
+use Rattle.word.specs.Wrap.{residue}
+use Rattle.machine.specs.Rule.{Verdict, denied, allowed, Ruling}
+use Rattle.stack.specs.declared.Machine.{Machine}
+use Rattle.stack.specs.declared.Stepped.{Stepped}
+use Rattle.stack.specs.Words.{printed, outcome, carriedOut, prints}
+use Rattle.step.specs.declared.find.Inputs.{Inputs}
+use Rattle.step.specs.Lent.{Lent, After, after}
+use Rattle.step.specs.Find.{findOf}
+use Rattle.step.specs.Effect.{effectOf}
+use Rattle.engine.specs.declared.Went.{Went}
+use Rattle.engine.specs.Memory.{Output, output}
+
+-- what a ruler on words is asked with: the command's code word, the place label, and what the command found
+pub record Asked : Type 0 where
+  pub code : ℤ
+  pub pc : ℕ
+  pub inputs : Inputs
+
+abbrev pub WordRuler : Type 0 → Type 0
+WordRuler R = R → Asked → Ruling R
+
+-- what a command leaves of the record and the lent runs, and what the ruler keeps
+pub record Acted (R : Type 0) : Type 0 where
+  pub after : After
+  pub ruler : R
+
+abbrev pub acted : {R : Type 0} → After → R → Acted R
+acted a u = record { after = a; ruler = u }
+
+module _ {R : Type 0} (ρ : WordRuler R) (word operand : ℤ) (m : Machine) (u : R) (l : Lent) where
+  abbrev pub ruled : Verdict → After
+  ruled denied = after (outcome m 6) l
+  ruled (allowed p r) = effectOf p r m (residue 64 word) operand l
+
+  abbrev pub ruling : Inputs → Ruling R
+  ruling i = ρ u (record { code = word; pc = m .label .0; inputs = i })
+
+  abbrev pub actFound : Inputs → Acted R
+  actFound i =
+      choose (eqb (i .stop) carriedOut)
+      (acted (ruled (ruling i .verdict)) (ruling i .ruler))
+      (acted (after (outcome m (i .stop)) l) u)
+
+  unfoldable pub actOf : Acted R
+  actOf = actFound (findOf (residue 64 word) m l)
+
+-- its line
+abbrev pub went : Machine → ℕ → Went
+went m stop = record { machine = m; stop = stop }
+
+pub record Emitted : Type 0 where
+  pub went : Went
+  pub output : Output
+
+abbrev pub emitted : Went → Output → Emitted
+emitted w o = record { went = w; output = o }
+
+-- the line that a command hands back is written where there is room; without, the command is stopped and changes nothing
+unfoldable pub emitOf : (room : ℕ) → Machine → Stepped → Output → Emitted
+emitOf room m r o =
+    choose (eqb (r .stop) prints)
+    (choose (ltb (m .lines) room)
+    (emitted (went (printed (r .machine) room) carriedOut)
+    (output (set (o .numbers) (m .lines) (r .number)) (set (o .labels) (m .lines) (pos (r .label .0)))))
+    (emitted (went m 8) o))
+    (emitted (went (r .machine) (r .stop)) o)

@@ -1,0 +1,61 @@
+-- What an engine answers and what every lent run holds at exit.
+use Prim.Native.Nat.{ℕ}
+use mathlib.Core.List.{List}
+use lib.ListN.{length}
+use Rattle.word.specs.Lay.{laid}
+use Rattle.program.specs.declared.Command.{Command}
+use Rattle.program.specs.Decode.{Decoded, refused, accepted}
+use Rattle.program.specs.Space.{programWords}
+use Rattle.machine.specs.Rule.{Ruler}
+use Rattle.machine.specs.State.{State, stopNumber, start}
+use Rattle.machine.specs.Run.{Result, run}
+use Rattle.stack.specs.declared.Machine.{Machine}
+use Rattle.stack.specs.Words.{machine}
+use Rattle.step.specs.Lent.{lent}
+use Rattle.engine.specs.declared.Ran.{Ran}
+use Rattle.engine.specs.declared.Answer.{Answer}
+use Rattle.engine.specs.declared.Answer.the-variants as Answer
+use Rattle.engine.specs.Memory.{Memory, memory, room}
+use Rattle.engine.specs.Layout.{cellWords, cellsOf, linesLaid, stackAfter}
+
+-- the answer, what the ruler keeps, and the lent runs
+pub record Ended (R : Type 0) : Type 0 where
+  pub answer : Answer
+  pub ruler : R
+  pub memory : Memory
+
+abbrev pub ended : {R : Type 0} → Answer → R → Memory → Ended R
+ended a u m = record { answer = a; ruler = u; memory = m }
+
+-- the record of a state
+abbrev pub machineOf : State → Machine
+machineOf s = machine (s .pc .number) (s .pc .label) (length (s .stack)) (length (s .lines))
+
+-- the result gives the stop's number, the steps, the place atom, the stack depth and the lines written
+abbrev pub summary : {R : Type 0} → Result R → Ran
+summary r = record { machine = machineOf (r .state); stop = stopNumber (r .stop); steps = r .state .steps }
+
+-- document 01's run from the lent cells
+abbrev pub begin : Memory → State
+begin m = start (cellsOf (m .lent .cells))
+
+module _ {R : Type 0} (ρ : Ruler R) (cs : List Command) (u : R) (m : Memory) (fuel : ℕ) where
+  abbrev pub resultOf : Result R
+  resultOf = run ρ (room (m .output)) cs fuel (begin m) u
+
+  -- the lent runs after it
+  abbrev pub left : State → Memory
+  left s =
+      memory
+      (laid (programWords cs) (m .program))
+      (lent (stackAfter ρ (room (m .output)) cs fuel (begin m) u (m .lent .stack)) (cellWords (s .memory)))
+      (linesLaid (s .lines) (m .output))
+
+  -- the run to its stop
+  abbrev pub stoppedAt : Ended R
+  stoppedAt = ended (Answer.Stopped (summary resultOf)) (resultOf .ruler) (left (resultOf .state))
+
+-- by what the start came to: refused, with every lent run and what the ruler keeps as they came; otherwise the run to its stop
+abbrev pub engineOf : {R : Type 0} → Ruler R → Decoded → R → Memory → ℕ → Ended R
+engineOf ρ (refused r) u m fuel = ended (Answer.Refused r) u m
+engineOf ρ (accepted cs) u m fuel = stoppedAt ρ cs u m fuel

@@ -1,0 +1,109 @@
+-- What a command asks its rule with: the marks of the command, and labels in range; and no stop 6 comes before the rule or after it.
+-- Assumes nothing.
+use mathlib.Core.Path.{_≡_, refl}
+use mathlib.Core.Bool.{Bool, true, false}
+use mathlib.Core.List.{List, _∷_}
+use Prim.Native.Nat.{ℕ}
+use lib.IntN.{ℤ}
+use lib.ListN.{length}
+use lib.Dec.{leb, ltb}
+use Rattle.label.specs.Label.{InRange}
+use Rattle.program.specs.declared.Command.{Command}
+use Rattle.program.specs.declared.Command.the-variants.{Add, Sub, Pop, Output, Push, Load, Store, Jump, Bnz, Call, Ret}
+use Rattle.program.specs.Command.{supplies}
+use Rattle.machine.specs.Atom.{Atom, Entry, value, frame}
+use Rattle.machine.specs.Rule.{Input, present, missing, Key}
+use Rattle.machine.specs.State.{State, stackFull, outputFull}
+use Rattle.machine.specs.Stopped.{denies}
+use Rattle.machine.specs.Step.{Outcome, stopped, stepped, Request, halt, ask, request, keyOf}
+use Rattle.machine.specs.Step.{stackLimit, withValue, withValues, withFrame, withCell}
+use Rattle.machine.specs.Holds.{Each, AtomHas, EntryHas, LabelsInRange, InputHas, KeyHas, Marked, WellMarked}
+use Rattle.machine.proofs.Request.{value-all, values-all, frame-all, cell-all, provided-all}
+use Rattle.machine.proofs.Holds.{each-at}
+
+-- the labels of a well-marked key are in range
+marked-range : (b : Bool) (i : Input) → Marked b i → InputHas InRange i
+marked-range true (present l) h = h
+marked-range false (present l) h = absurd h
+marked-range b missing h = tt
+
+pub marked-has : {k : Key} → WellMarked k → KeyHas InRange k
+marked-has {k} m =
+    let n = supplies (k .opcode) in
+    record {
+      pc = m .pc;
+      input1 = marked-range (leb 1 n) (k .input1) (m .input1);
+      input2 = marked-range (leb 2 n) (k .input2) (m .input2);
+      input3 = marked-range (leb 3 n) (k .input3) (m .input3);
+    }
+
+-- an effect is carried out, or is stopped for want of room
+abbrev pub Roomy : Outcome → Type 0
+Roomy (stopped x) = denies x ≡ false
+Roomy (stepped t) = Unit
+
+-- a key with the marks of its command, and no stop 6 before the rule or after it
+abbrev pub Asks : Command → State → Request → Type 0
+Asks c s (halt x) = denies x ≡ false
+Asks c s (ask l1 l2 l3 k) = WellMarked (keyOf c s l1 l2 l3) × ((p r : ℕ) → Roomy (k p r))
+
+module _ (s : State) (h : LabelsInRange s) (c : Command) where
+  abbrev Labelled : List Entry → Type 0
+  Labelled es = Each (EntryHas (λ n. Unit) InRange) es
+
+  value-asks : (k : Atom → List Entry → Request) → ((a : Atom) (rest : List Entry) → InRange (a .label) → Asks c s (k a rest))
+      → Asks c s (withValue (s .stack) k)
+  value-asks k f =
+      value-all (Asks c s) (s .stack) k refl (λ a rest e.
+      let g : Labelled (value a ∷ rest) = rw e at (h .stack) in f a rest (g .0 .1))
+
+  values-asks : (k : Atom → Atom → List Entry → Request)
+      → ((a b : Atom) (rest : List Entry) → InRange (a .label) → InRange (b .label) → Asks c s (k a b rest))
+      → Asks c s (withValues (s .stack) k)
+  values-asks k f =
+      values-all (Asks c s) (s .stack) k refl (λ a b rest e.
+      let g : Labelled (value a ∷ value b ∷ rest) = rw e at (h .stack) in f a b rest (g .0 .1) (g .1 .0 .1))
+
+  frame-asks : (k : Atom → List Entry → Request) → ((a : Atom) (rest : List Entry) → InRange (a .label) → Asks c s (k a rest))
+      → Asks c s (withFrame (s .stack) k)
+  frame-asks k f =
+      frame-all (Asks c s) (s .stack) k refl (λ a rest e.
+      let g : Labelled (frame a ∷ rest) = rw e at (h .stack) in f a rest (g .0 .1))
+
+  cell-asks : (z : ℤ) (k : ℕ → Atom → Request) → ((i : ℕ) (b : Atom) → InRange (b .label) → Asks c s (k i b))
+      → Asks c s (withCell (s .memory) z k)
+  cell-asks z k f = cell-all (Asks c s) (s .memory) z k refl (λ i b e at. f i b (each-at (AtomHas (λ n. Unit) InRange) at (h .memory) .1))
+
+module _ (room : ℕ) (s : State) (h : LabelsInRange s) where
+  abbrev p : InRange (s .pc .label)
+  p = h .pc .1
+
+  pub request-asks : (c : Command) → Asks c s (request room c s)
+  unfolding request
+  request-asks Add = values-asks s h Add _ (λ a b rest ha hb. (record { pc = p; input1 = ha; input2 = hb; input3 = tt }, λ q r. tt))
+  request-asks Sub = values-asks s h Sub _ (λ a b rest ha hb. (record { pc = p; input1 = ha; input2 = hb; input3 = tt }, λ q r. tt))
+  request-asks Pop = value-asks s h Pop _ (λ a rest ha. (record { pc = p; input1 = ha; input2 = tt; input3 = tt }, λ q r. tt))
+  request-asks Output =
+      value-asks s h Output _ (λ a rest ha. (
+        record { pc = p; input1 = ha; input2 = tt; input3 = tt },
+        λ q r. provided-all Roomy (ltb (length (s .lines)) room) outputFull _ (λ e. tt) (λ e. refl),
+      ))
+  request-asks (Push n) = (
+    record { pc = p; input1 = tt; input2 = tt; input3 = tt },
+    λ q r. provided-all Roomy (ltb (length (s .stack)) stackLimit) stackFull _ (λ e. tt) (λ e. refl),
+  )
+  request-asks Load =
+      value-asks s h Load _ (λ a rest ha. cell-asks s h Load (a .number) _ (λ i b hb.
+      (record { pc = p; input1 = ha; input2 = hb; input3 = tt }, λ q r. tt)))
+  request-asks Store =
+      values-asks s h Store _ (λ a b rest ha hb. cell-asks s h Store (a .number) _ (λ i d hd.
+      (record { pc = p; input1 = ha; input2 = hb; input3 = hd }, λ q r. tt)))
+  request-asks Jump = value-asks s h Jump _ (λ a rest ha. (record { pc = p; input1 = ha; input2 = tt; input3 = tt }, λ q r. tt))
+  request-asks (Bnz n) = value-asks s h (Bnz n) _ (λ a rest ha. (record { pc = p; input1 = ha; input2 = tt; input3 = tt }, λ q r. tt))
+  request-asks Call = values-asks s h Call _ (λ a b rest ha hb. (record { pc = p; input1 = ha; input2 = tt; input3 = tt }, λ q r. tt))
+  request-asks Ret = frame-asks s h Ret _ (λ a rest ha. (record { pc = p; input1 = ha; input2 = tt; input3 = tt }, λ q r. tt))
+
+  -- whatever a command asks with has its marks, and labels in range
+  pub request-marked : (c : Command) (l1 l2 l3 : Input) (k : ℕ → ℕ → Outcome) → request room c s ≡ ask l1 l2 l3 k
+      → WellMarked (keyOf c s l1 l2 l3)
+  request-marked c l1 l2 l3 k e = let g : Asks c s (ask l1 l2 l3 k) = rw e at (request-asks c) in g .0

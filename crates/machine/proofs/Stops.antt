@@ -1,0 +1,25 @@
+-- The numbers of stops.
+-- Assumes nothing.
+use Prim.Native.Nat.{ℕ, _≤_, _<_}
+use mathlib.Core.Path.{_≡_}
+use mathlib.Core.Bool.{false}
+use native.Mathlib.Omega.{arith}
+use lib.Dec.{eqb}
+use borrow.Author.Tests.{ne-eqb}
+use Rattle.machine.specs.State.{Stop, end, fuelSpent, pcOutside, valueMissing, frameMissing, stopNumber}
+use Rattle.machine.specs.State.{addressOutside, denial, stackFull, outputFull}
+
+pub stop-number : (x : Stop) → stopNumber x ≤ 8
+stop-number end = omega arith
+stop-number fuelSpent = omega arith
+stop-number pcOutside = omega arith
+stop-number valueMissing = omega arith
+stop-number frameMissing = omega arith
+stop-number addressOutside = omega arith
+stop-number denial = omega arith
+stop-number stackFull = omega arith
+stop-number outputFull = omega arith
+
+-- no larger number is a stop's
+pub stop-other : (x : Stop) (n : ℕ) → 8 < n → eqb (stopNumber x) n ≡ false
+stop-other x n h = ne-eqb (stopNumber x) n (λ e. omega (arith, stop-number x))

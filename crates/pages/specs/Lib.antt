@@ -1,3 +1,0 @@
-pub mod Claim
-pub mod Job
-pub mod Reading

@@ -1,0 +1,28 @@
+-- The plain engine's ruler on words: the standard rules by a command's code, as the code of this crate chooses them.
+use Prim.Native.Nat.{ℕ}
+use lib.Dec.{ltb, eqb}
+use Rattle.word.specs.Choose.{choose}
+use Rattle.word.specs.Wrap.{residue}
+use Rattle.label.specs.Label.{bottom, join, flows}
+use Rattle.machine.specs.Rule.{Verdict, allowed, allowedIf}
+use Rattle.engine.specs.Act.{WordRuler}
+
+unfoldable pub standardBy : ℕ → (p l1 l2 l3 : ℕ) → Verdict
+standardBy code p l1 l2 l3 =
+    choose (ltb code 6)
+    (choose (ltb code 3)
+    (allowed p (join l1 l2))
+    (choose (ltb code 5) (choose (eqb code 3) (allowed p bottom) (allowed p (join l1 p))) (allowed p bottom)))
+    (choose (ltb code 8)
+    (choose (eqb code 6) (allowed p (join l1 l2)) (allowedIf (flows (join l1 p) l3) p (join (join l1 l2) p)))
+    (choose (ltb code 10)
+    (allowed (join l1 p) bottom)
+    (choose (eqb code 10) (allowed (join l1 p) p) (allowed l1 bottom))))
+
+-- it keeps nothing
+abbrev pub standardRuler : WordRuler Unit
+standardRuler u a =
+    record {
+      verdict = standardBy (residue 64 (a .code)) (a .pc) (a .inputs .input1 .0) (a .inputs .input2 .0) (a .inputs .input3 .0);
+      ruler = u;
+    }

@@ -1,0 +1,162 @@
+-- `step::effect::effect` meets its contract: the tests that led to a command choose it in the definition too.
+-- Assumes nothing.
+use mathlib.Core.Path.{ap, _∙_}
+use denote.Ref.{now}
+use borrow.Author.Tests.{eq-eqb, ne-eqb, lt-ltb, le-ltb}
+use Rattle.word.proofs.Signed.{back}
+use Rattle.step.specs.Lent.{cells, Lent, lent, after, withStack, withCells}
+use Rattle.step.specs.Effect.{effectOf}
+use borrow.Author.Needs.{needs}
+use Rattle.step.proofs.effect.effect.Statement.{statement}
+use Rattle.step.proofs.effect.effect.Tie as tie
+
+-- the lent runs as they came
+abbrev runs : tie.Start → Lent
+runs s = lent (now (s .args .stack)) (cells (now (s .args .values)) (now (s .args .labels)))
+
+returns : tie.Need-returns
+unfolding effectOf
+returns c =
+    let at-arith = c .before in
+    let at-if2 = at-arith .before .before in
+    let at-if1 = at-if2 .before in
+    let start = at-if1 .before in
+    rw (lt-ltb _ _ (at-if1 .if1 .taken), lt-ltb _ _ (at-if2 .if2 .taken))
+    (ap (withStack (runs start)) (at-arith .arith .ensures))
+
+returns-2 : tie.Need-returns-2
+unfolding effectOf
+returns-2 c =
+    let at-if4 = c .before in
+    let at-if3 = at-if4 .before in
+    let at-if2 = at-if3 .before in
+    let at-if1 = at-if2 .before in
+    let start = at-if1 .before in
+    rw (lt-ltb _ _ (at-if1 .if1 .taken), le-ltb _ _ (at-if2 .if2 .left), lt-ltb _ _ (at-if3 .if3 .taken), eq-eqb _ _ (at-if4 .if4 .taken))
+    (ap ((λ r. after r (runs start))) (c .pop .ensures))
+
+returns-3 : tie.Need-returns-3
+unfolding effectOf
+returns-3 c =
+    let at-if4 = c .before .before in
+    let at-if3 = at-if4 .before in
+    let at-if2 = at-if3 .before in
+    let at-if1 = at-if2 .before in
+    let start = at-if1 .before in
+    rw (lt-ltb _ _ (at-if1 .if1 .taken), le-ltb _ _ (at-if2 .if2 .left), lt-ltb _ _ (at-if3 .if3 .taken), ne-eqb _ _ (at-if4 .if4 .left))
+    (ap ((λ r. after r (runs start))) (c .output .ensures))
+
+returns-4 : tie.Need-returns-4
+unfolding effectOf
+returns-4 c =
+    let at-push = c .before in
+    let at-if3 = at-push .before .before in
+    let at-if2 = at-if3 .before in
+    let at-if1 = at-if2 .before in
+    let start = at-if1 .before in
+    rw (lt-ltb _ _ (at-if1 .if1 .taken), le-ltb _ _ (at-if2 .if2 .left), le-ltb _ _ (at-if3 .if3 .left))
+    (ap (withStack (runs start)) (at-push .push .ensures) ∙ rw (back {z = start .args .operand} (start .fits .operand)))
+
+returns-5 : tie.Need-returns-5
+unfolding effectOf
+returns-5 c =
+    let at-load = c .before in
+    let at-if6 = at-load .before .before .before in
+    let at-if5 = at-if6 .before in
+    let at-if1 = at-if5 .before in
+    let start = at-if1 .before in
+    rw (le-ltb _ _ (at-if1 .if1 .left), lt-ltb _ _ (at-if5 .if5 .taken), eq-eqb _ _ (at-if6 .if6 .taken))
+    (ap (withStack (runs start)) (at-load .load .ensures))
+
+returns-6 : tie.Need-returns-6
+unfolding effectOf
+returns-6 c =
+    let at-store = c .before .before in
+    let at-if6 = at-store .before .before .before .before in
+    let at-if5 = at-if6 .before in
+    let at-if1 = at-if5 .before in
+    let start = at-if1 .before in
+    rw (le-ltb _ _ (at-if1 .if1 .left), lt-ltb _ _ (at-if5 .if5 .taken), ne-eqb _ _ (at-if6 .if6 .left))
+    (ap (withCells (runs start)) (at-store .store .ensures))
+
+returns-7 : tie.Need-returns-7
+unfolding effectOf
+returns-7 c =
+    let at-if8 = c .before .before in
+    let at-if7 = at-if8 .before in
+    let at-if5 = at-if7 .before in
+    let at-if1 = at-if5 .before in
+    let start = at-if1 .before in
+    rw (le-ltb _ _ (at-if1 .if1 .left), le-ltb _ _ (at-if5 .if5 .left), lt-ltb _ _ (at-if7 .if7 .taken), eq-eqb _ _ (at-if8 .if8 .taken))
+    (ap ((λ r. after r (runs start))) (c .jump .ensures))
+
+returns-8 : tie.Need-returns-8
+unfolding effectOf
+returns-8 c =
+    let at-if8 = c .before .before in
+    let at-if7 = at-if8 .before in
+    let at-if5 = at-if7 .before in
+    let at-if1 = at-if5 .before in
+    let start = at-if1 .before in
+    rw (le-ltb _ _ (at-if1 .if1 .left), le-ltb _ _ (at-if5 .if5 .left), lt-ltb _ _ (at-if7 .if7 .taken), ne-eqb _ _ (at-if8 .if8 .left))
+    (ap ((λ r. after r (runs start))) (c .bnz .ensures) ∙ rw (back {z = start .args .operand} (start .fits .operand)))
+
+returns-9 : tie.Need-returns-9
+unfolding effectOf
+returns-9 c =
+    let at-call = c .before in
+    let at-if9 = at-call .before .before in
+    let at-if7 = at-if9 .before in
+    let at-if5 = at-if7 .before in
+    let at-if1 = at-if5 .before in
+    let start = at-if1 .before in
+    rw (le-ltb _ _ (at-if1 .if1 .left), le-ltb _ _ (at-if5 .if5 .left), le-ltb _ _ (at-if7 .if7 .left), eq-eqb _ _ (at-if9 .if9 .taken))
+    (ap (withStack (runs start)) (at-call .call .ensures))
+
+returns-10 : tie.Need-returns-10
+unfolding effectOf
+returns-10 c =
+    let at-if9 = c .before .before in
+    let at-if7 = at-if9 .before in
+    let at-if5 = at-if7 .before in
+    let at-if1 = at-if5 .before in
+    let start = at-if1 .before in
+    rw (le-ltb _ _ (at-if1 .if1 .left), le-ltb _ _ (at-if5 .if5 .left), le-ltb _ _ (at-if7 .if7 .left), ne-eqb _ _ (at-if9 .if9 .left))
+    (ap ((λ r. after r (runs start))) (c .jump2 .ensures))
+
+pub effect-spec : {M : Type 1} → statement M
+effect-spec =
+    tie.close
+    (tie.spec
+    (λ c κs. search needs)
+    (λ c. search needs)
+    returns
+    (λ c κs. search needs)
+    returns-2
+    (λ c κs. search needs)
+    (λ c. search needs)
+    returns-3
+    (λ c κs. search needs)
+    (λ c. search needs)
+    returns-4
+    (λ c κs. search needs)
+    (λ c. search needs)
+    (λ c. search needs)
+    returns-5
+    (λ c κs. search needs)
+    (λ c. search needs)
+    (λ c. search needs)
+    (λ c. search needs)
+    returns-6
+    (λ c κs. search needs)
+    (λ c. search needs)
+    returns-7
+    (λ c κs. search needs)
+    (λ c. search needs)
+    returns-8
+    (λ c κs. search needs)
+    (λ c. search needs)
+    returns-9
+    (λ c κs. search needs)
+    (λ c. search needs)
+    returns-10)

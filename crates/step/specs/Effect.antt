@@ -1,0 +1,104 @@
+-- What a command does on lent words, with the new place label p and the result label r of a ruling.
+use Prim.Native.Nat.{ℕ}
+use mathlib.Core.Bool.{Bool, false}
+use mathlib.Core.List.{List}
+use lib.IntN.{ℤ, pos, negsuc}
+use lib.ListN.{length, getD, set}
+use lib.Dec.{ltb, eqb}
+use Rattle.word.specs.Choose.{choose}
+use Rattle.word.specs.declared.number.Index.{Index}
+use Rattle.word.specs.declared.number.Index.the-variants.{At, Outside}
+use Rattle.word.specs.Number.{indexOf}
+use Rattle.word.specs.Wrap.{addWrap, subWrap}
+use Rattle.stack.specs.declared.Machine.{Machine}
+use Rattle.stack.specs.declared.Stepped.{Stepped}
+use Rattle.stack.specs.Words.{pushed, pushedStack, refilledStack, dropped, gone, following, outcome, carriedOut, printing}
+use Rattle.step.specs.Lent.{Cells, cells, Lent, After, after, OnStack, onStack, withStack, OnCells, onCells, withCells}
+use Rattle.step.specs.Find.{first, second}
+
+-- Add has code 1, Sub 2
+unfoldable pub sumOf : ℕ → ℤ → ℤ → ℤ
+sumOf code a b = choose (eqb code 1) (addWrap a b) (subWrap a b)
+
+abbrev pub isZero : ℤ → Bool
+isZero (pos n) = eqb n 0
+isZero (negsuc n) = false
+
+-- Bnz's target
+unfoldable pub branchOf : ℤ → ℤ → ℤ → ℤ
+branchOf number pc operand = choose (isZero number) (addWrap pc (pos 1)) (addWrap pc operand)
+
+-- a value in place of one that m just dropped
+abbrev pub refilling : Machine → List ℤ → ℤ → ℕ → ℕ → OnStack
+refilling m stack number label p = onStack (outcome (following (pushed m) p) carriedOut) (refilledStack m stack number label)
+
+module _ (p r : ℕ) (m : Machine) where
+  unfoldable pub arithEffect : ℕ → List ℤ → OnStack
+  arithEffect code stack = refilling (dropped (dropped m)) stack (sumOf code (first m stack .number) (second m stack .number)) r p
+
+  unfoldable pub outputEffect : List ℤ → Stepped
+  outputEffect stack = printing (following (dropped m) p) (first m stack .number) r
+
+  -- with room on the stack
+  unfoldable pub pushEffect : ℤ → List ℤ → OnStack
+  pushEffect operand stack =
+      choose (ltb (m .depth) 256)
+      (onStack (outcome (following (pushed m) p) carriedOut) (pushedStack m stack (pos 0) operand r))
+      (onStack (outcome m 7) stack)
+
+  abbrev pub loadFrom : List ℤ → List ℤ → Index → OnStack
+  loadFrom stack values Outside = onStack (outcome m 5) stack
+  loadFrom stack values (At i) = refilling (dropped m) stack (getD values i (pos 0)) r p
+
+  unfoldable pub loadEffect : List ℤ → List ℤ → OnStack
+  loadEffect stack values = loadFrom stack values (indexOf (first m stack .number) (length values))
+
+  abbrev pub storeTo : List ℤ → Cells → Index → OnCells
+  storeTo stack c Outside = onCells (outcome m 5) c
+  storeTo stack c (At i) =
+      onCells
+      (outcome (following (dropped (dropped m)) p) carriedOut)
+      (cells (set (c .values) i (second m stack .number)) (set (c .labels) i (pos r)))
+
+  unfoldable pub storeEffect : List ℤ → Cells → OnCells
+  storeEffect stack c = storeTo stack c (indexOf (first m stack .number) (length (c .values)))
+
+  -- the argument is pushed again above the frame
+  unfoldable pub callEffect : List ℤ → OnStack
+  callEffect stack =
+      let under = dropped (dropped m) in
+      let framed = pushedStack under stack (pos 1) (addWrap (m .pc .0) (pos 1)) r in
+      onStack
+      (outcome (gone (pushed (pushed under)) (first m stack .number) p) carriedOut)
+      (pushedStack (pushed under) framed (pos 0) (second m stack .number) (second m stack .label .0))
+
+-- those without a result
+module _ (p : ℕ) (m : Machine) where
+  unfoldable pub popEffect : Stepped
+  popEffect = outcome (following (dropped m) p) carriedOut
+
+  -- Jump and Ret go to the number on top
+  unfoldable pub jumpEffect : List ℤ → Stepped
+  jumpEffect stack = outcome (gone (dropped m) (first m stack .number) p) carriedOut
+
+  unfoldable pub bnzEffect : ℤ → List ℤ → Stepped
+  bnzEffect operand stack = outcome (gone (dropped m) (branchOf (first m stack .number) (m .pc .0) operand) p) carriedOut
+
+-- by the code of the command, as the code of this crate chooses
+unfoldable pub effectOf : (p r : ℕ) → Machine → ℕ → ℤ → Lent → After
+effectOf p r m code operand l =
+    choose (ltb code 6)
+    (choose (ltb code 3)
+    (withStack l (arithEffect p r m code (l .stack)))
+    (choose (ltb code 5)
+    (choose (eqb code 3) (after (popEffect p m) l) (after (outputEffect p r m (l .stack)) l))
+    (withStack l (pushEffect p r m operand (l .stack)))))
+    (choose (ltb code 8)
+    (choose (eqb code 6)
+    (withStack l (loadEffect p r m (l .stack) (l .cells .values)))
+    (withCells l (storeEffect p r m (l .stack) (l .cells))))
+    (choose (ltb code 10)
+    (choose (eqb code 8) (after (jumpEffect p m (l .stack)) l) (after (bnzEffect p m operand (l .stack)) l))
+    (choose (eqb code 10)
+    (withStack l (callEffect p r m (l .stack)))
+    (after (jumpEffect p m (l .stack)) l))))

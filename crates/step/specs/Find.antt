@@ -1,0 +1,95 @@
+-- What a command finds on lent words: a stop, or the labels of its inputs.
+use Prim.Native.Nat.{ℕ}
+use mathlib.Core.Bool.{Bool}
+use mathlib.Core.List.{List}
+use lib.IntN.{ℤ, pos}
+use lib.ListN.{length, getD}
+use lib.Dec.{ltb, eqb}
+use Rattle.word.specs.Choose.{choose}
+use Rattle.word.specs.declared.number.Index.{Index}
+use Rattle.word.specs.declared.number.Index.the-variants.{At, Outside}
+use Rattle.word.specs.Number.{indexOf}
+use Rattle.label.specs.Label.{bottom}
+use Rattle.label.specs.Word.{lowLabel}
+use Rattle.stack.specs.declared.Machine.{Machine}
+use Rattle.stack.specs.declared.Slot.{Slot}
+use Rattle.stack.specs.Words.{carriedOut, slotAt}
+use Rattle.step.specs.declared.find.Inputs.{Inputs}
+use Rattle.step.specs.Lent.{Cells, Lent}
+
+-- so many inputs, and their labels; a missing one has the empty label
+abbrev pub inputs : ℕ → ℕ → ℕ → ℕ → Inputs
+inputs n a b c =
+    record { stop = carriedOut; count = n; input1 = record { 0 = a }; input2 = record { 0 = b }; input3 = record { 0 = c } }
+
+abbrev pub halted : ℕ → Inputs
+halted stop =
+    record { stop = stop; count = 0; input1 = record { 0 = bottom }; input2 = record { 0 = bottom }; input3 = record { 0 = bottom } }
+
+abbrev pub isValue : Slot → Bool
+isValue s = eqb (s .kind) 0
+
+abbrev pub isFrame : Slot → Bool
+isFrame s = eqb (s .kind) 1
+
+-- the label of the cell at an index
+abbrev pub cellLabel : Cells → ℕ → ℕ
+cellLabel c i = lowLabel (getD (c .labels) i (pos 0))
+
+module _ (m : Machine) (stack : List ℤ) where
+  -- the top, the next
+  abbrev pub first : Slot
+  first = slotAt stack (m .depth) 0
+
+  abbrev pub second : Slot
+  second = slotAt stack (m .depth) 1
+
+  -- a value on top; two of them
+  abbrev pub ifValue : Inputs → Inputs
+  ifValue found = choose (isValue first) found (halted 3)
+
+  abbrev pub ifValues : Inputs → Inputs
+  ifValues found = choose (isValue second) (ifValue found) (halted 3)
+
+  -- Pop, Output, Jump, Bnz; Add, Sub; Call; Ret
+  unfoldable pub oneValue : Inputs
+  oneValue = ifValue (inputs 1 (first .label .0) bottom bottom)
+
+  unfoldable pub twoValues : Inputs
+  twoValues = ifValues (inputs 2 (first .label .0) (second .label .0) bottom)
+
+  unfoldable pub callValues : Inputs
+  callValues = ifValues (inputs 1 (first .label .0) bottom bottom)
+
+  unfoldable pub oneFrame : Inputs
+  oneFrame = choose (isFrame first) (inputs 1 (first .label .0) bottom bottom) (halted 4)
+
+module _ (m : Machine) (l : Lent) where
+  -- the cell at the address on top
+  abbrev pub addressed : Index
+  addressed = indexOf (first m (l .stack) .number) (length (l .cells .values))
+
+  abbrev pub loadFinding : Index → Inputs
+  loadFinding Outside = halted 5
+  loadFinding (At i) = inputs 2 (first m (l .stack) .label .0) (cellLabel (l .cells) i) bottom
+
+  abbrev pub storeFinding : Index → Inputs
+  storeFinding Outside = halted 5
+  storeFinding (At i) = inputs 3 (first m (l .stack) .label .0) (second m (l .stack) .label .0) (cellLabel (l .cells) i)
+
+  unfoldable pub loadCell : Inputs
+  loadCell = ifValue m (l .stack) (loadFinding addressed)
+
+  unfoldable pub storeCell : Inputs
+  storeCell = ifValues m (l .stack) (storeFinding addressed)
+
+-- by the code of the command, as the code of this crate chooses
+unfoldable pub findOf : ℕ → Machine → Lent → Inputs
+findOf code m l =
+    choose (ltb code 6)
+    (choose (ltb code 3) (twoValues m (l .stack))
+    (choose (ltb code 5) (oneValue m (l .stack)) (inputs 0 bottom bottom bottom)))
+    (choose (ltb code 8)
+    (choose (eqb code 6) (loadCell m l) (storeCell m l))
+    (choose (ltb code 10) (oneValue m (l .stack))
+    (choose (eqb code 10) (callValues m (l .stack)) (oneFrame m (l .stack)))))
