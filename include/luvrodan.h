@@ -80,15 +80,15 @@ typedef struct {
 /*
  * Runs a sheet under the standard rules.
  *
- * values, labels: the cells; Store changes them. program: two words a command. stack: 768 words. numbers, marks: the
- * output space, a number word and a label word for each line; the shorter sets how many lines fit.
+ * values, labels: the cells; Store changes them. program: two words a command. stack: 768 words. numbers,
+ * line_labels: the output space, a number word and a label word for each line; the shorter sets how many lines fit.
  *
  * Refusals, in this order: 1, 2, 3 (sheet), 4, 5 (cells), 8 at 1 or 2 (spaces), 9 (allowance). A refused call
  * changes no lent word.
  *
  * After an accepted run program holds the sheet's commands from its start; stack the entries, bottom first, with
- * dropped entries above as they were; numbers and marks the lines from their start; values and labels the cells.
- * All other lent words are as they came.
+ * dropped entries above as they were; numbers and line_labels the lines from their start; values and labels the
+ * cells. All other lent words are as they came.
  */
 luvrodan_result luvrodan_plain(const uint8_t *sheet, size_t sheet_length,
                                int64_t *values, size_t value_count,
@@ -96,7 +96,7 @@ luvrodan_result luvrodan_plain(const uint8_t *sheet, size_t sheet_length,
                                int64_t *program, size_t program_words,
                                int64_t *stack, size_t stack_words,
                                int64_t *numbers, size_t number_count,
-                               int64_t *marks, size_t mark_count,
+                               int64_t *line_labels, size_t line_label_count,
                                uint64_t fuel);
 
 /*
@@ -121,7 +121,7 @@ luvrodan_result luvrodan_tagged(const uint8_t *sheet, size_t sheet_length,
                                 int64_t *stack, size_t stack_words,
                                 int64_t *handler, size_t handler_words,
                                 int64_t *numbers, size_t number_count,
-                                int64_t *marks, size_t mark_count,
+                                int64_t *line_labels, size_t line_label_count,
                                 uint64_t fuel);
 
 /* How many kernel commands the handler of this table has, 1 to 8,192; 0 where the bytes are no rule table. */

@@ -104,7 +104,7 @@ fn run(ops: &[Op], lent: &mut Lent, fuel: u64) -> Report {
         .collect();
     let cells = &mut cells[..];
     let mut stack = [Entry { number: 0, label: 0, frame: false }; STACK];
-    let room = lent.numbers.len().min(lent.marks.len());
+    let room = lent.numbers.len().min(lent.line_labels.len());
     let count = ops.len() as u64;
     let (mut pc, mut label, mut depth, mut lines, mut left) = (0i64, 0u32, 0usize, 0usize, fuel);
     // Entries below this were written.
@@ -244,7 +244,7 @@ fn run(ops: &[Op], lent: &mut Lent, fuel: u64) -> Report {
                     break Stop::OutputFull;
                 }
                 lent.numbers[lines] = entry!(0).number;
-                lent.marks[lines] = (entry!(0).label | label).into();
+                lent.line_labels[lines] = (entry!(0).label | label).into();
                 lines += 1;
                 depth -= 1;
                 pc += 1;

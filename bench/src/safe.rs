@@ -103,8 +103,8 @@ fn put(stack: &mut [i64], index: usize, kind: i64, number: i64, label: i64) {
 }
 
 fn run(count: usize, lent: &mut Lent, fuel: u64) -> Report {
-    let Lent { values, labels, program, stack, numbers, marks, .. } = lent;
-    let room = numbers.len().min(marks.len());
+    let Lent { values, labels, program, stack, numbers, line_labels, .. } = lent;
+    let room = numbers.len().min(line_labels.len());
     let (mut pc, mut label, mut depth, mut lines, mut steps) = (0i64, 0i64, 0usize, 0usize, 0u64);
     let stop = loop {
         if pc == count as i64 {
@@ -149,7 +149,7 @@ fn run(count: usize, lent: &mut Lent, fuel: u64) -> Report {
                 }
                 let top = 3 * (depth - 1);
                 numbers[lines] = stack[top + 1];
-                marks[lines] = stack[top + 2] | label;
+                line_labels[lines] = stack[top + 2] | label;
                 lines += 1;
                 depth -= 1;
                 pc += 1;

@@ -114,8 +114,8 @@ fn needs(code: i64, stack: &[i64], depth: usize, labels: &[i64]) -> Result<[i64;
 }
 
 fn run(count: usize, lent: &mut Lent, fuel: u64) -> Report {
-    let Lent { values, labels, rule_memory, program, stack, handler, numbers, marks } = lent;
-    let room = numbers.len().min(marks.len());
+    let Lent { values, labels, rule_memory, program, stack, handler, numbers, line_labels } = lent;
+    let room = numbers.len().min(line_labels.len());
     let (mut pc, mut label, mut depth, mut lines, mut steps) = (0i64, 0i64, 0usize, 0usize, 0u64);
     let (mut faults, mut kernel_steps) = (0, 0);
     let mut memory: [i64; 7] = rule_memory[..].try_into().expect("the rule memory was accepted");
@@ -165,7 +165,7 @@ fn run(count: usize, lent: &mut Lent, fuel: u64) -> Report {
                     break Stop::OutputFull;
                 }
                 numbers[lines] = stack[top + 1];
-                marks[lines] = result;
+                line_labels[lines] = result;
                 lines += 1;
                 depth -= 1;
             }

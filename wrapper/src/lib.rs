@@ -45,7 +45,7 @@ pub struct Lent<'a> {
     pub stack: &'a mut [i64],
     /// The lines' numbers and labels; the shorter run sets how many fit.
     pub numbers: &'a mut [i64],
-    pub marks: &'a mut [i64],
+    pub line_labels: &'a mut [i64],
 }
 
 /// What the tag engine is lent besides.
@@ -85,8 +85,8 @@ pub fn plain_raw(sheet: &[u8], lent: Lent, fuel: u64) -> sys::RawResult {
             lent.stack.len(),
             lent.numbers.as_mut_ptr(),
             lent.numbers.len(),
-            lent.marks.as_mut_ptr(),
-            lent.marks.len(),
+            lent.line_labels.as_mut_ptr(),
+            lent.line_labels.len(),
             fuel,
         )
     }
@@ -115,8 +115,8 @@ pub fn tagged_raw(sheet: &[u8], lent: Lent, tags: Tags, fuel: u64) -> sys::RawRe
             tags.handler.len(),
             lent.numbers.as_mut_ptr(),
             lent.numbers.len(),
-            lent.marks.as_mut_ptr(),
-            lent.marks.len(),
+            lent.line_labels.as_mut_ptr(),
+            lent.line_labels.len(),
             fuel,
         )
     }

@@ -26,7 +26,7 @@ pub struct Machine {
     stack: Vec<i64>,
     handler: Vec<i64>,
     numbers: Vec<i64>,
-    marks: Vec<i64>,
+    line_labels: Vec<i64>,
     rule_memory: [i64; RULE_MEMORY_WORDS],
     depth: usize,
     lines: usize,
@@ -42,7 +42,7 @@ impl Machine {
             stack: vec![0; 768],
             handler: Vec::new(),
             numbers: vec![0; lines],
-            marks: vec![0; lines],
+            line_labels: vec![0; lines],
             rule_memory: [0; RULE_MEMORY_WORDS],
             depth: 0,
             lines: 0,
@@ -83,7 +83,7 @@ impl Machine {
             program: &mut self.program,
             stack: &mut self.stack,
             numbers: &mut self.numbers,
-            marks: &mut self.marks,
+            line_labels: &mut self.line_labels,
         };
         (lent, &mut self.rule_memory, &mut self.handler)
     }
@@ -100,7 +100,7 @@ impl Machine {
 
     /// The lines of the last accepted run.
     pub fn lines(&self) -> impl Iterator<Item = Atom> + '_ {
-        atoms(&self.numbers[..self.lines], &self.marks)
+        atoms(&self.numbers[..self.lines], &self.line_labels)
     }
 
     /// The lines of the last accepted run that a reader who is cleared for this set of owners may see.

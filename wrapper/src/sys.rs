@@ -39,8 +39,8 @@ extern "C" {
         stack_words: usize,
         numbers: *mut i64,
         number_count: usize,
-        marks: *mut i64,
-        mark_count: usize,
+        line_labels: *mut i64,
+        line_label_count: usize,
         fuel: u64,
     ) -> RawResult;
 
@@ -63,8 +63,8 @@ extern "C" {
         handler_words: usize,
         numbers: *mut i64,
         number_count: usize,
-        marks: *mut i64,
-        mark_count: usize,
+        line_labels: *mut i64,
+        line_label_count: usize,
         fuel: u64,
     ) -> RawResult;
 

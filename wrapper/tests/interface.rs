@@ -81,11 +81,24 @@ fn lend(lengths: [usize; 3], label: i64) -> [Result<Stop, Refusal>; 2] {
     let (values, labels, rule_memory) = (&mut [1], &mut [label], &mut [0; 7]);
     let by_plain = plain(
         &[3],
-        Lent { values, labels, program: &mut program, stack: &mut stack, numbers: &mut [], marks: &mut [] },
+        Lent {
+            values,
+            labels,
+            program: &mut program,
+            stack: &mut stack,
+            numbers: &mut [],
+            line_labels: &mut [],
+        },
         9,
     );
-    let lent =
-        Lent { values, labels, program: &mut program, stack: &mut stack, numbers: &mut [], marks: &mut [] };
+    let lent = Lent {
+        values,
+        labels,
+        program: &mut program,
+        stack: &mut stack,
+        numbers: &mut [],
+        line_labels: &mut [],
+    };
     let tags = Tags { table: &STANDARD_TABLE, rule_memory, handler: &mut handler };
     [by_plain, tagged(&[3], lent, tags, 9)].map(|answer| answer.map(|report| report.stop))
 }

@@ -19,7 +19,7 @@ fn lent_difference(engine: &Lent, model: &Lent) -> Option<String> {
         ("stack", &engine.stack, &model.stack),
         ("handler", &engine.handler, &model.handler),
         ("numbers", &engine.numbers, &model.numbers),
-        ("marks", &engine.marks, &model.marks),
+        ("line_labels", &engine.line_labels, &model.line_labels),
     ];
     for (name, engine, model) in runs {
         if engine == model {
@@ -169,7 +169,7 @@ pub fn describe(start: &Start) -> String {
         lent.stack.len(),
         lent.handler.len(),
         lent.numbers.len(),
-        lent.marks.len(),
+        lent.line_labels.len(),
         start.fuel
     )
 }

@@ -14,7 +14,7 @@ fn lend(lent: &mut Lent) -> (luvrodan::Lent<'_>, &mut [i64], &mut [i64]) {
         program: &mut lent.program,
         stack: &mut lent.stack,
         numbers: &mut lent.numbers,
-        marks: &mut lent.marks,
+        line_labels: &mut lent.line_labels,
     };
     (lent_to_engine, &mut lent.rule_memory, &mut lent.handler)
 }

@@ -634,7 +634,7 @@ pub fn start(random: &mut Random, handler_count: impl Fn(&[u8]) -> u64) -> Start
             let length = output_length(random);
             random.words(length)
         },
-        marks: {
+        line_labels: {
             let length = output_length(random);
             random.words(length)
         },

@@ -92,7 +92,7 @@ fn run(backend: &dyn Backend, random: &mut Random, sheet: &[Command], cells: &[A
     };
     let [refusal, _, stop, steps, _, _, _, lines, _, _] = answer.words;
     assert_eq!(refusal, 0, "the start breaks no limit");
-    let written = lent.numbers.into_iter().zip(lent.marks).take(lines as usize);
+    let written = lent.numbers.into_iter().zip(lent.line_labels).take(lines as usize);
     let view = written.filter(|&(_, mark)| flows(mark as Label, set)).collect();
     Run { view, steps: (stop, steps), on_plain }
 }

@@ -22,7 +22,7 @@ pub struct Lent {
     pub stack: Vec<i64>,
     pub handler: Vec<i64>,
     pub numbers: Vec<i64>,
-    pub marks: Vec<i64>,
+    pub line_labels: Vec<i64>,
 }
 
 impl Lent {
@@ -36,7 +36,7 @@ impl Lent {
             stack: vec![0; 3 * STACK],
             handler: vec![0; 2 * kernel::COMMANDS],
             numbers: vec![0; lines],
-            marks: vec![0; lines],
+            line_labels: vec![0; lines],
         }
     }
 }
@@ -109,7 +109,7 @@ fn lay<const N: usize>(space: &mut [i64], records: impl Iterator<Item = [i64; N]
 
 /// Runs the machine and lays what it left into the lent words.
 fn run(commands: &[Command], cells: Vec<Atom>, lent: &mut Lent, fuel: u64, judge: &mut impl Judge) -> Report {
-    let room = lent.numbers.len().min(lent.marks.len());
+    let room = lent.numbers.len().min(lent.line_labels.len());
     let mut machine = Machine::new(cells, room);
     let (stop, steps) = machine.run(commands, fuel, judge);
     lay(&mut lent.program, commands.iter().map(|command| command.words()));
@@ -123,7 +123,7 @@ fn run(commands: &[Command], cells: Vec<Atom>, lent: &mut Lent, fuel: u64, judge
     lay(&mut lent.values, machine.cells.iter().map(|cell| [cell.number]));
     lay(&mut lent.labels, machine.cells.iter().map(|cell| [cell.label.into()]));
     lay(&mut lent.numbers, machine.lines.iter().map(|line| [line.number]));
-    lay(&mut lent.marks, machine.lines.iter().map(|line| [line.label.into()]));
+    lay(&mut lent.line_labels, machine.lines.iter().map(|line| [line.label.into()]));
     Report {
         stop,
         steps,

@@ -80,7 +80,7 @@ pub fn page(job: &[u8]) -> String {
         Ok(report) => report,
         Err(refusal) => return format!("refused {} {}\n", refusal.number, refusal.place),
     };
-    let lines = lent.numbers.iter().zip(&lent.marks);
+    let lines = lent.numbers.iter().zip(&lent.line_labels);
     lines
         .take(report.lines as usize)
         .filter(|(_, &label)| flows(label as Label, job.reader))

@@ -39,7 +39,7 @@ fn run_with(sheet: &[Command], cells: &[Atom], fuel: u64, lines: usize) -> Resul
             return Err(tagged.unwrap_err());
         }
     };
-    let written = lent.numbers.iter().copied().zip(lent.marks.iter().copied());
+    let written = lent.numbers.iter().copied().zip(lent.line_labels.iter().copied());
     let lines = written.take(report.lines as usize).collect();
     Ok(Run { report, lines, lent })
 }
