@@ -28,12 +28,12 @@ use Rattle.policy.specs.Read.{readTable}
 use Rattle.policy.specs.Standard.{standardTable, standardBytes}
 use Rattle.policy.proofs.Standard.{standard-read}
 use Rattle.handler.specs.Kernel.{Instruction}
-use Rattle.handler.specs.Translate.{translate}
+use Rattle.handler.specs.Translate.{translate, handlerOf}
 use Rattle.plain.specs.Plain.{plain}
 use Rattle.tagging.specs.Consult.{Tag, tagRuler}
 use Rattle.tagging.specs.Claim as Tagging
 use Rattle.tagging.proofs.Refines.{tag-standard}
-use Rattle.tagged.specs.Start.{handlerOf, ownOf}
+use Rattle.tagged.specs.Start.{ownOf}
 use Rattle.tagged.specs.Tagged.{Left, tagOf, tagged}
 use Rattle.tagged.specs.Tagged as Tagged
 use Rattle.tagged.proofs.Accepted.{Ready, start-ready}

@@ -32,9 +32,9 @@ use Rattle.policy.specs.Expression.{Table}
 use Rattle.policy.specs.Read.{ReadTable, table, readTable}
 use Rattle.policy.specs.Read as Read
 use Rattle.policy.specs.Row.{acceptedRow}
-use Rattle.handler.specs.Translate.{translate}
+use Rattle.handler.specs.Translate.{translate, handlerOf}
 use Rattle.tagging.specs.Consult.{tagRuler}
-use Rattle.tagged.specs.Start.{handlerOf, ownOf}
+use Rattle.tagged.specs.Start.{ownOf}
 use Rattle.tagged.specs.Tagged.{Left, left, tagOf, startTagged, taggedOf, tagged}
 use Rattle.claims.specs.Refusals.{Gives, broken, Nothing, _before_, first, next, Labels, OfSheet, OfTable, Own, noneOwn, taggedOwn}
 use Rattle.claims.specs.Refusals.{Checks, Demand, StoppedBy, TaggedDemand, PlainClaim, TaggedClaim}

@@ -5,8 +5,9 @@ mod row;
 use result::LuvrodanPageResult;
 use result::LuvrodanResult;
 ghost use mathlib.Core.Path.{_≡_};
+ghost use lib.ListN.{length};
 ghost use Rattle.policy.specs.Read.{readTable};
-ghost use Rattle.translator.specs.Measure.{handlerCount};
+ghost use Rattle.handler.specs.Translate.{handlerOf};
 ghost use Rattle.step.specs.Lent.{cells, lent};
 ghost use Rattle.engine.specs.Memory.{output, memory};
 ghost use Rattle.exports.specs.Exported.{plainLeft, exportedPlain, taggedLeft, exportedTagged, pageLeft, exportedPage};
@@ -90,7 +91,7 @@ pub extern "C" fn luvrodan_tagged(
 // How many kernel commands the handler of a table has; 0 where the bytes are no table.
 #[no_mangle]
 pub extern "C" fn luvrodan_handler_count(table: &[u8]) -> u64
-    ensures { λ r. ⌜ r ≡ handlerCount (readTable (now (table .entry))) ⌝ }
+    ensures { λ r. ⌜ r ≡ length (handlerOf (readTable (now (table .entry)))) ⌝ }
 {
     translator::count(table) as u64
 }

@@ -6,6 +6,7 @@ use mathlib.Core.List.{List, [], _∷_, _++_, map}
 use lib.IntN.{pos, negsuc}
 use lib.ListN.{length}
 use Rattle.policy.specs.Expression.{LabelExpr, empty, place, input1, input2, input3, join, Condition, flows, always, both, either, Rule, Table}
+use Rattle.policy.specs.Read.{ReadTable, refused, table}
 use Rattle.handler.specs.Kernel.{Instruction, Add, Sub, Or, Load, Store, Dup, Jump, Ret, Push, Bnz}
 
 -- a word of the row on the stack
@@ -67,3 +68,8 @@ dispatch = Push (pos 0) ∷ Load ∷ Dup ∷ Push (pos 5) ∷ Add ∷ Jump ∷ [
 
 unfoldable pub translate : Table → List Instruction
 translate t = let bodies = map compileRule t in dispatch ++ slots 0 bodies ++ concat bodies
+
+-- of bytes that were read: what is no table has no handler
+abbrev pub handlerOf : ReadTable → List Instruction
+handlerOf (refused r) = []
+handlerOf (table t) = translate t

@@ -44,7 +44,7 @@ pub fn execute(
         Checked::Accepted(count) => {
             program::write(sheet, program);
             let room = engine::room(numbers.len(), line_labels.len());
-            let ran = run::accepted(
+            let ran = run::go(
                 count,
                 room,
                 fuel,

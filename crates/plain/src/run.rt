@@ -78,7 +78,8 @@ fn next(
     }
 }
 
-// Runs a loaded program of `count` commands from the start, for at most `fuel` steps.
+// Runs a loaded program of `count` commands from the start, for at most `fuel` steps. What it needs of the lent runs is tested once more,
+// here where the compiler sees it: it then leaves the tests of lengths out of the loop.
 pub(crate) fn go(
     count: usize,
     room: usize,
@@ -90,7 +91,8 @@ pub(crate) fn go(
     numbers: &mut [i64],
     line_labels: &mut [i64],
 ) -> Ran
-    requires { ⌜ (count ≤ 4096) × (2 * count ≤ length (now program)) ⌝ }
+    requires { ⌜ (count ≤ 4096) × (2 * count ≤ length (now program)) × (768 ≤ length (now stack))
+        × (length (now values) ≤ 1024) × (length (now values) ≡ length (now labels)) ⌝ }
     ensures { λ r. ⌜ done r tt
         (lent (now (stack .exit)) (cells (now (values .exit)) (now (labels .exit))))
         (output (now (numbers .exit)) (now («line_labels» .exit)))
@@ -100,6 +102,13 @@ pub(crate) fn go(
 {
     let mut m = Machine::start();
     let mut steps: u64 = 0;
+    if !((768 <= stack.len()) & ((values.len() <= 1024) & (values.len() == labels.len()))) {
+        return Ran {
+            machine: m,
+            stop: 1,
+            steps,
+        };
+    }
     while steps < fuel {
         let place = place_in(m.pc, count);
         match place {
@@ -136,49 +145,5 @@ pub(crate) fn go(
         machine: m,
         stop,
         steps,
-    }
-}
-
-// Runs a program that the start has accepted. What it needs of the lent runs is tested once more, here where the compiler sees it: it then
-// leaves the tests of lengths out of the loop.
-pub(crate) fn accepted(
-    count: usize,
-    room: usize,
-    fuel: u64,
-    program: &[i64],
-    stack: &mut [i64],
-    values: &mut [i64],
-    labels: &mut [i64],
-    numbers: &mut [i64],
-    line_labels: &mut [i64],
-) -> Ran
-    requires { ⌜ (count ≤ 4096) × (2 * count ≤ length (now program)) × (768 ≤ length (now stack))
-        × (length (now values) ≤ 1024) × (length (now values) ≡ length (now labels)) ⌝ }
-    ensures { λ r. ⌜ done r tt
-        (lent (now (stack .exit)) (cells (now (values .exit)) (now (labels .exit))))
-        (output (now (numbers .exit)) (now («line_labels» .exit)))
-        ≡ loopOf standardRuler count room (now (program .entry)) fuel 0 started tt
-        (lent (now (stack .entry)) (cells (now (values .entry)) (now (labels .entry))))
-        (output (now (numbers .entry)) (now («line_labels» .entry))) ⌝ }
-{
-    let cells = (values.len() <= 1024) & (values.len() == labels.len());
-    if (768 <= stack.len()) & cells {
-        return go(
-            count,
-            room,
-            fuel,
-            program,
-            stack,
-            values,
-            labels,
-            numbers,
-            line_labels,
-        );
-    }
-    let machine = Machine::start();
-    Ran {
-        machine,
-        stop: 1,
-        steps: 0,
     }
 }

@@ -80,16 +80,11 @@ pub fn two_values(m: Machine, stack: &[i64]) -> Inputs
 pub fn call_values(m: Machine, stack: &[i64]) -> Inputs
     ensures { λ r. ⌜ r ≡ callValues m (now (stack .entry)) ⌝ }
 {
-    let depth = m.depth;
-    let b = stack::look(stack, depth, 1);
-    if b.kind != 0 {
-        return halt(3);
+    let both = two_values(m, stack);
+    if both.stop != CARRIED {
+        return both;
     }
-    let a = stack::look(stack, depth, 0);
-    if a.kind != 0 {
-        return halt(3);
-    }
-    found(1, a.label, Label::EMPTY, Label::EMPTY)
+    found(1, both.input1, Label::EMPTY, Label::EMPTY)
 }
 
 // Ret: a frame, else stop 4.

@@ -3,7 +3,7 @@
 use mathlib.Core.Path.{_≡_, refl, sym, ap, subst, _∙_}
 use mathlib.Core.Bool.{Bool, true, false}
 use mathlib.Core.List.{List, _∷_}
-use mathlib.Core.Option.{Option, none, some}
+use mathlib.Core.Option.{some}
 use Prim.Native.Nat.{ℕ, _+_, _-_, _<_, _≤_}
 use native.Mathlib.Omega.{arith}
 use lib.Dec.{leb, ltb}
@@ -11,8 +11,6 @@ use lib.ListN.{length, drop}
 use lib.Seq.{drop-drop}
 use Rattle.program.specs.Command.{Opcode, opcodes, opcodeOf, codeOf, supplies}
 use Rattle.program.proofs.Codes.{codeOf-opcodeOf}
-use Rattle.program.specs.declared.Refusal.{Refusal}
-use Rattle.machine.specs.Rule.{standard}
 use Rattle.tables.specs.declared.Labels.{Labels}
 use Rattle.tables.specs.declared.Verdict.{Verdict}
 use Rattle.tables.specs.declared.Verdict.the-variants as Verdict
@@ -22,8 +20,6 @@ use Rattle.tables.specs.declared.RuleRead.the-variants as RuleRead
 use Rattle.policy.specs.Expression.{Rule, Table}
 use Rattle.policy.specs.Evaluate.{evalRule, evaluate}
 use Rattle.policy.specs.Read.{Read, fault, found, prepend, ruleCount, readRules, ReadTable, refused, table, whole, wholeIf, tableIf, tableLimit, readTable}
-use Rattle.policy.specs.Standard.{standardBytes}
-use Rattle.policy.proofs.Standard.{standard-read, evaluate-standard}
 use Rattle.tables.specs.Value.{keyOf}
 use Rattle.tables.specs.Ask.{verdictOf, codeRead, checkAnswer, Readable, ask}
 use Rattle.policy.proofs.Tokens.{getElem-drop}
@@ -128,24 +124,7 @@ module _ (ls : Labels) (s : List ℕ) (code i at : ℕ) (p : Passing s code i at
       let d = passing-said ls s code i at p v next (subst (λ n. codeRead (opcodeOf n) ls s at ≡ RuleRead.Is v next) own-code e) in
       d ∙ ap (λ n. verdictOf (ask (readTable s) (opcodeOf n) ls)) (sym own-code)
 
--- accepted bytes are a table; nothing is allowed by others
+-- accepted bytes are a table
 pub accepted-readable : (x : ReadTable) → checkAnswer x ≡ Checked.Accepted → Readable x
 accepted-readable (refused r) e = let z : _≡_ {A = ℕ} 0 1 = cc in absurd (omega arith)
 accepted-readable (table t) e = tt
-
-pub refused-denied : (x : ReadTable) (o : Option Opcode) (ls : Labels) (r : Refusal) → checkAnswer x ≡ Checked.Refused r
-    → Verdict.Denied ≡ verdictOf (ask x o ls)
-refused-denied (refused q) o ls r e = refl
-refused-denied (table t) o ls r e = let z : _≡_ {A = ℕ} 0 1 = cc in absurd (omega arith)
-
--- nothing is allowed to what is no command
-pub none-denied : (x : ReadTable) (o : Option Opcode) (ls : Labels) → o ≡ none → Verdict.Denied ≡ verdictOf (ask x o ls)
-none-denied x o ls e = rw e (denied x)
-  where
-    denied : (x : ReadTable) → Verdict.Denied ≡ verdictOf (ask x none ls)
-    denied (refused r) = refl
-    denied (table t) = refl
-
--- the bytes of the standard table say what the standard policy says
-pub ask-standard : (o : Opcode) (ls : Labels) → ask (readTable standardBytes) (some o) ls ≡ standard (keyOf o (supplies o) ls)
-ask-standard o ls = rw standard-read (evaluate-standard (keyOf o (supplies o) ls))

@@ -1,32 +1,37 @@
 -- Rows as the code checks them: the key of a row by its labels, and the answer by the row's command, labels and verdict.
 -- Assumes nothing.
-use mathlib.Core.Path.{_≡_, refl, sym, ap, _∙_}
+use mathlib.Core.Path.{_≡_, refl, sym, ap, ap₂, _∙_}
 use mathlib.Core.Bool.{Bool, true, false}
 use mathlib.Core.List.{List}
 use mathlib.Core.Option.{Option, none, some}
-use Prim.Native.Nat.{ℕ}
+use Prim.Native.Nat.{ℕ, _≤_}
 use native.Mathlib.Omega.{arith}
 use lib.IntN.{ℤ}
 use lib.Dec.{leb}
 use Rattle.word.specs.declared.number.Natural.{Natural}
 use Rattle.word.specs.declared.number.Natural.the-variants as Natural
 use Rattle.word.specs.Number.{naturalOf}
+use Rattle.word.proofs.Bool.{never}
 use Rattle.label.specs.declared.Stored.{Stored}
 use Rattle.label.specs.declared.Stored.the-variants as Stored
 use Rattle.label.specs.Word.{stored}
+use Rattle.program.specs.declared.Refusal.{Refusal}
 use Rattle.program.specs.declared.Shape.the-variants as Shape
 use Rattle.program.specs.Fetch.{shapeOf}
 use Rattle.program.specs.Command.{Opcode, opcodeOf, supplies}
+use Rattle.program.proofs.Codes.{codeOf-opcodeOf, code-least, code-most}
 use Rattle.machine.specs.Rule as Rules
 use Rattle.tables.specs.declared.Labels.{Labels}
+use Rattle.tables.specs.declared.Checked.{Checked}
+use Rattle.tables.specs.declared.Checked.the-variants as Checked
 use Rattle.tables.specs.declared.row.Found.{Found}
 use Rattle.tables.specs.declared.row.Found.the-variants as Found
 use Rattle.policy.specs.Evaluate.{evaluate}
-use Rattle.policy.specs.Read.{ReadTable, refused, table}
+use Rattle.policy.specs.Read.{ruleCount, ReadTable, refused, table}
 use Rattle.tables.specs.Value.{inputIf, keyOf}
-use Rattle.tables.specs.Ask.{verdictOf, ask}
+use Rattle.tables.specs.Ask.{verdictOf, checkAnswer, ask}
 use Rattle.policy.specs.Row.{isMark, emptyRow, inputOf, presentOf, missingIf, labelOption, given, word, rowKey, agrees, acceptedRow, rowAnswer}
-use Rattle.tables.specs.RowCode.{markIf, inputStored, labelsFrom, rowLabels, verdictAgrees, rowIn}
+use Rattle.tables.specs.RowCode.{markIf, inputStored, labelsFrom, rowLabels, verdictAgrees, rowIn, inspected}
 
 -- ════════════════════════════════════════════════════════════════════════════════════════════
 -- The key of a row
@@ -80,6 +85,12 @@ verdict-agrees : (v : Rules.Verdict) (p r : ℤ) → verdictAgrees (verdictOf v)
 verdict-agrees Rules.denied p r = refl
 verdict-agrees (Rules.allowed q t) p r = refl
 
+-- a command that has a shape has a rule
+pub shape-rule : (n : ℕ) (x : Option Opcode) (w k : ℕ) (has : Bool) → opcodeOf n ≡ x → shapeOf x ≡ Shape.Of w k has → (1 ≤ n) × (n ≤ ruleCount)
+shape-rule n none w k has d e = never (cc)
+shape-rule n (some o) w k has d e =
+    let c = codeOf-opcodeOf n o d in (omega (arith, code-least o, c), omega (arith, code-most o, c))
+
 module _ (t : ReadTable) (ws : List ℤ) where
   pub row-unknown : (x : Option Opcode) → shapeOf x ≡ Shape.Unknown → false ≡ rowIn t x ws
   row-unknown none e = by-table t
@@ -132,3 +143,13 @@ module _ (ws : List ℤ) where
   unfolding acceptedRow
   row-code (refused r) n e f = sym e
   row-code (table t) n e f = rw (e, f)
+
+-- both checks, by what the first says
+pub accepted-inspected : (t : ReadTable) (ws : List ℤ) (b : Bool) → checkAnswer t ≡ Checked.Accepted → b ≡ rowAnswer t ws
+    → record { table = Checked.Accepted; row = b } ≡ inspected t ws
+accepted-inspected t ws b e f = ap₂ (λ (x : Checked) (y : Bool). record { table = x; row = y }) (sym e) f
+
+pub refused-inspected : (t : ReadTable) (ws : List ℤ) (r : Refusal) (b : Bool) → checkAnswer t ≡ Checked.Refused r → b ≡ emptyRow ws
+    → record { table = Checked.Refused r; row = b } ≡ inspected t ws
+refused-inspected (refused q) ws r b e f = ap₂ (λ (x : Checked) (y : Bool). record { table = x; row = y }) (sym e) f
+refused-inspected (table t) ws r b e f = never (cc)

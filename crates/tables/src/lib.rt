@@ -1,4 +1,4 @@
-// Rule tables in code: check 6, what a table says when it is asked, check 7. Read the definitions of `policy` first; in specs/ Value, Ask
+// Rule tables in code: check 6, what a table says when it is asked, and both it and check 7. Read the definitions of `policy` first; in specs/ Value, Ask
 // and RowCode say what the code reads of a table and of a row.
 pub mod expression;
 pub mod row;
@@ -177,22 +177,5 @@ fn rule_of(bytes: &[u8], code: u64, labels: Labels) -> Verdict
     match rule {
         RuleRead::Is(verdict, _) => verdict,
         RuleRead::Fault(_) => Verdict::Denied,
-    }
-}
-
-// What a table says for a command with a code and labels; nothing is allowed by bytes that are no table, or to what is no command.
-pub fn evaluate(bytes: &[u8], code: u64, labels: Labels) -> Verdict
-    ensures { λ r. ⌜ r ≡ verdictOf (ask (readTable (now (bytes .entry))) (opcodeOf code) labels) ⌝ }
-{
-    if code == 0 {
-        return Verdict::Denied;
-    }
-    if RULES < code {
-        return Verdict::Denied;
-    }
-    let checked = check_table(bytes);
-    match checked {
-        Checked::Accepted => rule_of(bytes, code, labels),
-        Checked::Refused(_) => Verdict::Denied,
     }
 }

@@ -1,10 +1,12 @@
-// Check 7. Read specs/Row.antt of `policy` first; specs/RowCode.antt says what the code finds of a row.
+// Check 7, beside check 6. Read specs/Row.antt of `policy` first; specs/RowCode.antt says what the code finds of a row.
 ghost use mathlib.Core.Path.{_≡_};
 ghost use Rattle.label.specs.Word.{stored};
 ghost use Rattle.policy.specs.Read.{readTable};
 ghost use Rattle.policy.specs.Row.{isMark, isStored, rowAnswer};
-ghost use Rattle.tables.specs.RowCode.{inputStored, labelsFrom, verdictAgrees, rowLabels, rowIn};
+ghost use Rattle.tables.specs.Ask.{Readable};
+ghost use Rattle.tables.specs.RowCode.{inputStored, labelsFrom, verdictAgrees, rowLabels, rowIn, inspected};
 ghost use Rattle.program.specs.Command.{opcodeOf};
+use crate::Checked;
 use crate::Labels;
 use crate::Verdict;
 use label::Label;
@@ -12,6 +14,12 @@ use label::Stored;
 use policy::row::Cache;
 use program::Shape;
 use word::number::Natural;
+
+// What a table and a rule memory are found to be: check 6, and whether check 7 accepts the row.
+pub struct Inspected {
+    pub table: Checked,
+    pub row: bool,
+}
 
 // The labels that a row asks with, if its words are such.
 enum Found {
@@ -97,6 +105,7 @@ fn row_labels(cache: Cache, supplied: usize) -> Found
 
 // A row whose command has this code: does the table allow it with the row's labels, and are the last two the table's own?
 fn allowed_row(bytes: &[u8], code: u64, cache: Cache) -> bool
+    requires { ⌜ Readable (readTable (now bytes)) ⌝ }
     ensures { λ r. ⌜ r ≡ rowIn (readTable (now (bytes .entry))) (opcodeOf code) (cache .words) ⌝ }
 {
     let shape = program::shape_of(code);
@@ -107,7 +116,7 @@ fn allowed_row(bytes: &[u8], code: u64, cache: Cache) -> bool
             match found {
                 Found::Nothing => false,
                 Found::Of(labels) => agrees(
-                    crate::evaluate(bytes, code, labels),
+                    crate::rule_of(bytes, code, labels),
                     cache.get(5),
                     cache.get(6),
                 ),
@@ -116,8 +125,9 @@ fn allowed_row(bytes: &[u8], code: u64, cache: Cache) -> bool
     }
 }
 
-// Check 7 of document 01 for any seven words: empty, or an allowed row of this table.
-pub fn check_row(bytes: &[u8], cache: Cache) -> bool
+// Check 7 for a table: the row is empty, or an allowed row of this table.
+fn check_row(bytes: &[u8], cache: Cache) -> bool
+    requires { ⌜ Readable (readTable (now bytes)) ⌝ }
     ensures { λ r. ⌜ r ≡ rowAnswer (readTable (now (bytes .entry))) (cache .words) ⌝ }
 {
     if cache.is_empty() {
@@ -127,5 +137,22 @@ pub fn check_row(bytes: &[u8], cache: Cache) -> bool
     match code {
         Natural::Negative => false,
         Natural::Of(n) => allowed_row(bytes, n, cache),
+    }
+}
+
+// Checks 6 and 7 of document 01 over any bytes and any seven words; where the bytes are no table, only the empty row is accepted.
+pub fn inspect(bytes: &[u8], cache: Cache) -> Inspected
+    ensures { λ r. ⌜ r ≡ inspected (readTable (now (bytes .entry))) (cache .words) ⌝ }
+{
+    let checked = crate::check_table(bytes);
+    match checked {
+        Checked::Accepted => Inspected {
+            table: Checked::Accepted,
+            row: check_row(bytes, cache),
+        },
+        Checked::Refused(r) => Inspected {
+            table: Checked::Refused(r),
+            row: cache.is_empty(),
+        },
     }
 }

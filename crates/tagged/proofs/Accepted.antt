@@ -31,19 +31,18 @@ use Rattle.policy.specs.Row.{acceptedRow}
 use Rattle.policy.proofs.Writable.{read-writable}
 use Rattle.handler.specs.Kernel.{handle}
 use Rattle.handler.specs.Space.{kernelWords, handleSpace}
-use Rattle.handler.specs.Translate.{translate}
+use Rattle.handler.specs.Translate.{translate, handlerOf}
 use Rattle.handler.proofs.Shape.{handler-length}
 use Rattle.handler.proofs.Space.{handleSpace-laid}
-use Rattle.translator.specs.Measure.{measureOf}
 use Rattle.tagging.specs.Consult.{Tag, tagRuler}
 use Rattle.tagging.proofs.Ruled.{rules-range}
 use Rattle.tagged.specs.Ruling.{tagWords}
-use Rattle.tagged.specs.Start.{handlerOf, measuredLimit, ownOf}
+use Rattle.tagged.specs.Start.{tableLimit, ownOf}
 use Rattle.tagged.specs.Tagged.{left, tagOf, handlerAfter, taggedOf, tagged}
 use Rattle.tagged.proofs.Following.{tag-follows}
 
 -- a table that is kept
-table-kept : (q : ReadTable) → measuredLimit (measureOf q) ≡ Kept → (t : Table) × (q ≡ table t)
+table-kept : (q : ReadTable) → tableLimit q ≡ Kept → (t : Table) × (q ≡ table t)
 table-kept (Read.refused r) e = never (cc)
 table-kept (table t) e = (t, refl)
 

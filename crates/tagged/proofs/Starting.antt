@@ -1,11 +1,61 @@
--- A table that was measured: its handler's length.
+-- What is found of the rules before a run, by the check of the table.
 -- Assumes nothing.
-use mathlib.Core.Path.{_≡_, refl}
+use mathlib.Core.Path.{_≡_, refl, sym, ap, _∙_}
+use mathlib.Core.List.{List}
+use Prim.Native.Nat.{ℕ, _/_}
+use native.Mathlib.Omega.{arith}
+use lib.IntN.{ℤ}
+use lib.Dec.{leb}
 use lib.ListN.{length}
-use Rattle.policy.specs.Read.{ReadTable, refused, table}
-use Rattle.translator.specs.Measure.{measureOf}
-use Rattle.tagged.specs.Start.{handlerOf, sizeOf}
+use borrow.Author.Tests.{le-leb}
+use Rattle.word.proofs.Bool.{never}
+use Rattle.program.specs.declared.Refusal.{Refusal}
+use Rattle.program.specs.Decode.{refusal}
+use Rattle.engine.specs.declared.start.Limit.{Limit}
+use Rattle.engine.specs.declared.start.Limit.the-variants.{Broken, Kept}
+use Rattle.engine.specs.Start.{keptIf}
+use Rattle.engine.proofs.Limits.{leb-half}
+use Rattle.policy.specs.Read.{ReadTable, refused, table, readTable}
+use Rattle.tables.specs.declared.Checked.the-variants as Checked
+use Rattle.tables.specs.declared.row.Inspected.{Inspected}
+use Rattle.tables.specs.Ask.{checkAnswer}
+use Rattle.tables.specs.RowCode.{inspected}
+use Rattle.handler.specs.Translate.{handlerOf}
+use Rattle.translator.specs.Emit.{tableCode}
+use Rattle.translator.proofs.Translating.{accepted-handler, refused-handler}
+use Rattle.tagged.specs.declared.start.Found.{Found}
+use Rattle.tagged.specs.Start.{tableLimit, rowLimit, handlerLimit, foundOf}
 
-pub measured-size : (q : ReadTable) → sizeOf (measureOf q) ≡ length (handlerOf q)
-measured-size (refused r) = refl
-measured-size (table t) = refl
+-- check 6
+table-kept : (q : ReadTable) → checkAnswer q ≡ Checked.Accepted → tableLimit q ≡ Kept
+table-kept (refused r) e = never (cc)
+table-kept (table t) e = refl
+
+table-broken : (q : ReadTable) (r : Refusal) → checkAnswer q ≡ Checked.Refused r → tableLimit q ≡ Broken r
+table-broken (refused p) r e = cc
+table-broken (table t) r e = never (cc)
+
+abbrev found : Limit → Limit → Limit → ℕ → Found
+found rules row handler size = record { own = record { rules = rules; row = row; handler = handler }; size = size }
+
+module _ (bytes : List ℕ) (ws : List ℤ) (words : ℕ) (i : Inspected) (is : i ≡ inspected (readTable bytes) ws)
+    (row : Limit) (kept : row ≡ keptIf (i .row) (refusal 7 0)) where
+  abbrev rules : ReadTable
+  rules = readTable bytes
+
+  row-is : row ≡ rowLimit rules ws
+  row-is = kept ∙ ap (λ (x : Inspected). keptIf (x .row) (refusal 7 0)) is
+
+  answer : checkAnswer rules ≡ i .table
+  answer = sym (ap (λ (x : Inspected). x .table) is)
+
+  pub found-accepted : (size : ℕ) (handler : Limit) → i .table ≡ Checked.Accepted → size ≡ length (tableCode bytes)
+      → handler ≡ keptIf (leb size (words / 2)) (refusal 8 3) → found Kept row handler size ≡ foundOf rules ws words
+  found-accepted size handler e s h =
+      let size-is : size ≡ length (handlerOf rules) = s ∙ ap length (accepted-handler bytes (answer ∙ e)) in
+      let half = ap (λ n. leb n (words / 2)) size-is ∙ leb-half (length (handlerOf rules)) words in
+      let handler-is : handler ≡ handlerLimit rules words = h ∙ ap (λ b. keptIf b (refusal 8 3)) half in
+      rw (row-is, handler-is, size-is, table-kept rules (answer ∙ e))
+
+  pub found-refused : (r : Refusal) → i .table ≡ Checked.Refused r → found (Broken r) row Kept 0 ≡ foundOf rules ws words
+  found-refused r e = rw (row-is, table-broken rules r (answer ∙ e), refused-handler rules r (answer ∙ e), le-leb 0 words (omega arith))

@@ -1,6 +1,6 @@
 -- The tag engine's own limits among those of a start: checks 6 and 7, and 8 at place 3.
 use Prim.Native.Nat.{ℕ, _*_}
-use mathlib.Core.List.{List, []}
+use mathlib.Core.List.{List}
 use lib.IntN.{ℤ}
 use lib.ListN.{length}
 use lib.Dec.{leb}
@@ -11,36 +11,26 @@ use Rattle.engine.specs.declared.start.Own.{Own}
 use Rattle.engine.specs.Start.{keptIf}
 use Rattle.policy.specs.Read.{ReadTable, refused, table}
 use Rattle.policy.specs.Row.{rowAnswer}
-use Rattle.handler.specs.Kernel.{Instruction}
-use Rattle.handler.specs.Translate.{translate}
-use Rattle.translator.specs.declared.Measured.{Measured}
-use Rattle.translator.specs.declared.Measured.the-variants as Measured
-use Rattle.translator.specs.Measure.{measureOf}
+use Rattle.handler.specs.Translate.{handlerOf}
+use Rattle.tagged.specs.declared.start.Found.{Found}
 
--- the handler of a table's bytes; bytes that are no table have none
-abbrev pub handlerOf : ReadTable → List Instruction
-handlerOf (refused r) = []
-handlerOf (table t) = translate t
-
--- as measuring a table gives them: its handler's length, none of what is refused, and check 6, the rule table
-abbrev pub sizeOf : Measured → ℕ
-sizeOf (Measured.Refused r) = 0
-sizeOf (Measured.Instructions count) = count
-
-abbrev pub measuredLimit : Measured → Limit
-measuredLimit (Measured.Refused r) = Broken r
-measuredLimit (Measured.Instructions count) = Kept
+-- check 6: the rules are no table
+abbrev pub tableLimit : ReadTable → Limit
+tableLimit (refused r) = Broken r
+tableLimit (table t) = Kept
 
 -- check 7: the rule memory is neither empty nor an allowed row of this table
 abbrev pub rowLimit : ReadTable → List ℤ → Limit
 rowLimit rules row = keptIf (rowAnswer rules row) (refusal 7 0)
 
--- of the table, the rule memory and the length of the handler space; check 8, place 3: it is shorter than the handler, two words a kernel
--- command
+-- check 8, place 3: the handler space is shorter than the handler, two words a kernel command
+abbrev pub handlerLimit : ReadTable → ℕ → Limit
+handlerLimit rules space = keptIf (leb (2 * length (handlerOf rules)) space) (refusal 8 3)
+
+-- of the table, the rule memory and the length of the handler space
 abbrev pub ownOf : ReadTable → List ℤ → ℕ → Own
-ownOf rules row space =
-    record {
-      rules = measuredLimit (measureOf rules);
-      row = rowLimit rules row;
-      handler = keptIf (leb (2 * length (handlerOf rules)) space) (refusal 8 3);
-    }
+ownOf rules row space = record { rules = tableLimit rules; row = rowLimit rules row; handler = handlerLimit rules space }
+
+-- with the handler's length
+abbrev pub foundOf : ReadTable → List ℤ → ℕ → Found
+foundOf rules row space = record { own = ownOf rules row space; size = length (handlerOf rules) }

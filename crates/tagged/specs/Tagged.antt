@@ -10,9 +10,10 @@ use Rattle.engine.specs.Start.{given, startOf}
 use Rattle.engine.specs.Ended.{Ended, ended, engineOf}
 use Rattle.policy.specs.Read.{ReadTable, readTable}
 use Rattle.handler.specs.Space.{kernelWords}
+use Rattle.handler.specs.Translate.{handlerOf}
 use Rattle.tagging.specs.Consult.{Tag, tag, tagRuler}
 use Rattle.tagged.specs.declared.Tagged.{Tagged}
-use Rattle.tagged.specs.Start.{handlerOf, ownOf}
+use Rattle.tagged.specs.Start.{ownOf}
 
 -- what every engine leaves, with the rule memory and the counts, and the handler space
 pub record Left : Type 0 where

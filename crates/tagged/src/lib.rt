@@ -45,16 +45,15 @@ pub fn execute(
         (output (now (numbers .entry)) (now («line_labels» .entry))))
         (now (handler .entry)) fuel ⌝ }
 {
-    let measured = translator::measure(table);
-    let size = start::size(measured);
-    let own = start::own(measured, table, cache, handler.len());
+    let rules = start::rules(table, cache, handler.len());
+    let size = rules.size;
     let given = Given {
         values: values.len(),
         program: program.len(),
         stack: stack.len(),
         fuel,
     };
-    let checked = engine::start::check(sheet, labels, given, own);
+    let checked = engine::start::check(sheet, labels, given, rules.own);
     match checked {
         Checked::Refused(r) => Tagged {
             answer: Answer::Refused(r),

@@ -3,48 +3,50 @@ use engine::start::Limit;
 use engine::start::Own;
 use engine::start::kept_if;
 use policy::row::Cache;
-use translator::Measured;
+use tables::Checked;
 ghost use mathlib.Core.Path.{_≡_};
 ghost use Rattle.policy.specs.Read.{readTable};
-ghost use Rattle.translator.specs.Measure.{measureOf};
-ghost use Rattle.tagged.specs.Start.{sizeOf, measuredLimit, rowLimit, ownOf};
+ghost use Rattle.tagged.specs.Start.{foundOf};
 
-// The length of the handler, in commands: none where the rules are no table.
-pub(crate) fn size(measured: Measured) -> usize
-    ensures { λ r. ⌜ r ≡ sizeOf measured ⌝ }
-{
-    match measured {
-        Measured::Instructions(count) => count,
-        Measured::Refused(_) => 0,
-    }
+// What is found of the rules before a run: the limits that they keep or break, and the length of their handler, in commands.
+pub(crate) struct Found {
+    pub own: Own,
+    pub size: usize,
 }
 
-// Check 6: number 6, its place the offset of the first byte at fault.
-fn rules(measured: Measured) -> Limit
-    ensures { λ r. ⌜ r ≡ measuredLimit measured ⌝ }
+// Check 6, its place the offset of the first byte at fault; check 7, place 0; and, for a handler space of so many words, 8 at place 3
+// where it is too short. The table's bytes are checked once; what is no table has no handler.
+pub(crate) fn rules(table: &[u8], cache: Cache, words: usize) -> Found
+    ensures { λ r. ⌜ r ≡ foundOf (readTable (now (table .entry))) (cache .words) words ⌝ }
 {
-    match measured {
-        Measured::Instructions(_) => Limit::Kept,
-        Measured::Refused(r) => Limit::Broken(r),
-    }
-}
-
-// Check 7: number 7, place 0.
-fn row(table: &[u8], cache: Cache) -> Limit
-    ensures { λ r. ⌜ r ≡ rowLimit (readTable (now (table .entry))) (cache .words) ⌝ }
-{
-    kept_if(tables::row::check_row(table, cache), 7, 0)
-}
-
-// All three, for a table that was measured and a handler space of so many words: number 8 at place 3 where it is too short.
-pub(crate) fn own(measured: Measured, table: &[u8], cache: Cache, words: usize) -> Own
-    requires { ⌜ measured ≡ measureOf (readTable (now table)) ⌝ }
-    ensures { λ r. ⌜ r ≡ ownOf (readTable (now (table .entry))) (cache .words) words ⌝ }
-{
-    let count = size(measured);
-    Own {
-        rules: rules(measured),
-        row: row(table, cache),
-        handler: kept_if(count <= words / 2, 8, 3),
+    let seen = tables::row::inspect(table, cache);
+    let checked = seen.table;
+    let row = kept_if(seen.row, 7, 0);
+    match checked {
+        Checked::Accepted => {
+            let size = translator::instructions(table);
+            let handler = kept_if(size <= words / 2, 8, 3);
+            let rules = Limit::Kept;
+            Found {
+                own: Own {
+                    rules,
+                    row,
+                    handler,
+                },
+                size,
+            }
+        }
+        Checked::Refused(r) => {
+            let rules = Limit::Broken(r);
+            let handler = Limit::Kept;
+            Found {
+                own: Own {
+                    rules,
+                    row,
+                    handler,
+                },
+                size: 0,
+            }
+        }
     }
 }

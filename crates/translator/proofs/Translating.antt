@@ -23,15 +23,13 @@ use Rattle.tables.specs.Ask.{checkAnswer}
 use Rattle.policy.specs.Read.{Read, fault, found, andThen, readTwo, readIf, labelFrom, readLabel, conditionFrom, readCondition, depthLimit}
 use Rattle.policy.specs.Read.{emptyByte, resultIf, readRuleWith, readRule, ruleCount, prepend, readRules}
 use Rattle.policy.specs.Read.{ReadTable, refused, table, wholeIf, whole, tableLimit, tableIf, readTable}
-use Rattle.translator.specs.declared.Measured.the-variants as Measured
 use Rattle.handler.specs.Kernel.{Instruction}
 use Rattle.handler.specs.Space.{kernelWords}
 use Rattle.handler.specs.Translate.{compileLabel, compileCondition, compileAnswer, compileIf, guarded, compileRule}
-use Rattle.handler.specs.Translate.{slots, concat, dispatch, translate}
+use Rattle.handler.specs.Translate.{slots, concat, dispatch, translate, handlerOf}
 use Rattle.translator.specs.Emit.{Piece, piece, joinCode, flowsCode, eitherCode, partOf, labelPiece, labelCode}
 use Rattle.translator.specs.Emit.{conditionPiece, conditionCode, answerOf, answerCode, guardedOf, guardedCode, rulePiece, ruleCode}
 use Rattle.translator.specs.Emit.{bodiesAt, tableCode, putCode}
-use Rattle.translator.specs.Measure.{handlerCount, measureOf}
 use Rattle.translator.proofs.Putting.{putCode-laid}
 
 -- a piece is the translation of what was found, with the offset after it
@@ -255,21 +253,14 @@ written-table s t space e h =
 -- The answers
 -- ════════════════════════════════════════════════════════════════════════════════════════════
 
--- of a measuring, by the check's
-pub refused-measured : (x : ReadTable) (r : Refusal) → checkAnswer x ≡ Checked.Refused r → Measured.Refused r ≡ measureOf x
-refused-measured (refused q) r e = let d : r ≡ q = cc in ap Measured.Refused d
-refused-measured (table t) r e = absurd (let z : _≡_ {A = ℕ} 0 1 = cc in omega arith)
+-- what is stored of an accepted table's bytes is its handler; others have none
+pub accepted-handler : (s : List ℕ) → checkAnswer (readTable s) ≡ Checked.Accepted → tableCode s ≡ handlerOf (readTable s)
+accepted-handler s e = by-table (readTable s) (table-translates s) e
+  where
+    by-table : (x : ReadTable) → Translates x (tableCode s) → checkAnswer x ≡ Checked.Accepted → tableCode s ≡ handlerOf x
+    by-table (refused q) h e = absurd (let z : _≡_ {A = ℕ} 0 1 = cc in omega arith)
+    by-table (table t) h e = h
 
-pub accepted-measured : (code : List Instruction) (x : ReadTable) → Translates x code → checkAnswer x ≡ Checked.Accepted
-    → Measured.Instructions (length code) ≡ measureOf x
-accepted-measured code (refused q) h e = absurd (let z : _≡_ {A = ℕ} 0 1 = cc in omega arith)
-accepted-measured code (table t) h e = ap (λ c. Measured.Instructions (length c)) h
-
--- of a count, by what was measured
-pub refused-count : (x : ReadTable) (r : Refusal) → measureOf x ≡ Measured.Refused r → 0 ≡ handlerCount x
-refused-count (refused q) r e = refl
-refused-count (table t) r e = absurd (let z : _≡_ {A = ℕ} 0 1 = cc in omega arith)
-
-pub measured-count : (x : ReadTable) (n : ℕ) → measureOf x ≡ Measured.Instructions n → n ≡ handlerCount x
-measured-count (refused q) n e = absurd (let z : _≡_ {A = ℕ} 0 1 = cc in omega arith)
-measured-count (table t) n e = cc
+pub refused-handler : (x : ReadTable) (r : Refusal) → checkAnswer x ≡ Checked.Refused r → handlerOf x ≡ []
+refused-handler (refused q) r e = refl
+refused-handler (table t) r e = absurd (let z : _≡_ {A = ℕ} 0 1 = cc in omega arith)

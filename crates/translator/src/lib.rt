@@ -1,15 +1,14 @@
-// The translator: from a rule table's bytes into the handler space. Read specs/Measure.antt first; Emit says what the code stores.
+// The translator: from a rule table's bytes into the handler space. Read handler/specs/Translate.antt first; in specs/ Emit says what the code stores.
 ghost use mathlib.Core.Path.{_≡_};
 ghost use Prim.Native.Nat.{_+_, _*_, _≤_, _^_};
 ghost use lib.ListN.{length};
 ghost use Rattle.policy.specs.Read.{readTable};
+ghost use Rattle.handler.specs.Translate.{handlerOf};
 ghost use Rattle.translator.specs.Emit.{partOf, twoPieces, joinCode, flowsCode, eitherCode, labelCode, conditionCode};
 ghost use Rattle.translator.specs.Emit.{answerCode, guardedCode, ruleCode, tableCode, putAll, putCode, Emitted};
-ghost use Rattle.translator.specs.Measure.{handlerCount, measureOf};
 use handler::code;
 use policy::Token;
 use policy::token_of;
-use program::Refusal;
 use tables::Checked;
 use tables::check_table;
 use tables::expression::Test;
@@ -42,12 +41,6 @@ const DUP: i64 = code::DUP as i64;
 const RULES: usize = policy::RULES as usize;
 
 const FIRST: usize = 6 + RULES;
-
-// The length of a table's handler, or why the bytes are no table.
-pub enum Measured {
-    Instructions(usize),
-    Refused(Refusal),
-}
 
 // Where a translation stands: the offset of the next byte, and the place of the next instruction.
 struct Mark {
@@ -363,23 +356,13 @@ fn emit_table(bytes: &[u8], space: &mut [i64]) -> usize
     mark.position
 }
 
-// How many instructions are stored of a table's bytes: those that a space of one word is given, where there is room for none.
-fn instructions(bytes: &[u8]) -> usize
+// How many instructions `write` stores of bytes where there is room, whatever the bytes: what a space of one word is given, which has
+// room for none.
+pub fn instructions(bytes: &[u8]) -> usize
     ensures { λ r. ⌜ r ≡ length (tableCode (now (bytes .entry))) ⌝ }
 {
     let mut none = [0i64; 1];
     emit_table(bytes, &mut none)
-}
-
-// Check 6 over any bytes, and the length of a table's handler.
-pub fn measure(bytes: &[u8]) -> Measured
-    ensures { λ r. ⌜ r ≡ measureOf (readTable (now (bytes .entry))) ⌝ }
-{
-    let checked = check_table(bytes);
-    match checked {
-        Checked::Accepted => Measured::Instructions(instructions(bytes)),
-        Checked::Refused(refusal) => Measured::Refused(refusal),
-    }
 }
 
 // Stores the handler of a table's bytes without a check: as far as there is room, whatever the bytes.
@@ -391,11 +374,11 @@ pub fn write(bytes: &[u8], space: &mut [i64])
 
 // How many instructions the handler of a table has; bytes that are no table have none.
 pub fn count(bytes: &[u8]) -> usize
-    ensures { λ r. ⌜ r ≡ handlerCount (readTable (now (bytes .entry))) ⌝ }
+    ensures { λ r. ⌜ r ≡ length (handlerOf (readTable (now (bytes .entry)))) ⌝ }
 {
-    let measured = measure(bytes);
-    match measured {
-        Measured::Instructions(count) => count,
-        Measured::Refused(_) => 0,
+    let checked = check_table(bytes);
+    match checked {
+        Checked::Accepted => instructions(bytes),
+        Checked::Refused(_) => 0,
     }
 }

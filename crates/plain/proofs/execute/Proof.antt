@@ -59,8 +59,8 @@ module _ (k : tie.After-checked2) where
   fine : Fine (now (start .args .sheet)) (lentMemory start) (start .args .fuel) noneOwn commands
   fine = start-fine (now (start .args .sheet)) (lentMemory start) (start .args .fuel) noneOwn commands accepts
 
-accepted-requires : tie.Need-accepted-requires
-accepted-requires c κs =
+go-requires : tie.Need-go-requires
+go-requires c κs =
     let at-write = c .before .before .before .before .before .before .before .before in
     let k = at-write .before .before .before in (
       rw (same-count k) (few _ (lentMemory (start k)) _ noneOwn (bytes k) (commands k) (fine k)),
@@ -87,13 +87,13 @@ returns-2 c =
     let k = at-write .before .before .before in
     let s = start k in
     let m = lentMemory s in
-    let x = at-go .accepted .last .1 .1 .1 .1 in
+    let x = at-go .go .last .1 .1 .1 .1 in
     let written =
     at-write .write .ensures ∙ written-accepted (now (s .args .sheet)) (commands k) (now (s .args .program)) (fine k .decoded) (fine k .program) in
     loop-whole (now (s .args .sheet)) m (s .args .fuel) noneOwn (bytes k) (commands k) (fine k) standardRuler (fixed standard)
     standard-follows (λ u. standard-range) tt (count k) (same-count k) (at-write .write .last .1 .0) written
-    (done (at-go .accepted .result) tt (lent (x .0) (cells (x .1 .0) (x .1 .1 .0))) (output (x .1 .1 .1 .0) (x .1 .1 .1 .1 .0)))
-    (rw (at-room .room .ensures) at (at-go .accepted .ensures))
+    (done (at-go .go .result) tt (lent (x .0) (cells (x .1 .0) (x .1 .1 .0))) (output (x .1 .1 .1 .0) (x .1 .1 .1 .1 .0)))
+    (rw (at-room .room .ensures) at (at-go .go .ensures))
     ∙ sym (ap (λ d. engineOf (fixed standard) d tt m (s .args .fuel)) (accepts k))
 
 pub execute-spec : {M : Type 1} → statement M
@@ -106,7 +106,7 @@ execute-spec =
     (λ c. search needs)
     (λ c κs. search needs)
     (λ c κs. search needs)
-    accepted-requires
+    go-requires
     (λ c. search needs)
     returns
     (λ c. search needs)

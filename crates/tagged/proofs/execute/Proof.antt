@@ -19,14 +19,13 @@ use Rattle.engine.specs.Loop.{done, loopOf}
 use Rattle.engine.proofs.Accepted.{taken, few}
 use Rattle.policy.specs.Expression.{Table}
 use Rattle.policy.specs.Read.{readTable}
-use Rattle.handler.specs.Translate.{translate}
+use Rattle.handler.specs.Translate.{translate, handlerOf}
 use Rattle.handler.specs.Space.{handleSpace}
-use Rattle.translator.specs.Measure.{measureOf}
 use Rattle.translator.proofs.Translating.{written-table}
 use Rattle.tagging.specs.Consult.{tag}
+use Rattle.tagged.specs.declared.start.Found.{Found}
 use Rattle.tagged.specs.Ruling.{tagWords}
 use Rattle.tagged.specs.Tagged.{tagOf, startTagged}
-use Rattle.tagged.specs.Start.{sizeOf}
 use Rattle.tagged.proofs.Accepted.{Ready, start-ready, handler-few, execute-refused, execute-accepted}
 use borrow.Author.Needs.{needs}
 use Rattle.tagged.proofs.execute.Statement.{statement}
@@ -35,7 +34,7 @@ use Rattle.tagged.proofs.execute.Tie as tie
 -- the checks were made
 module _ (k : tie.After-check) where
   abbrev start : tie.Start
-  start = k .before .before .before .before .before .before .before
+  start = k .before .before .before .before .before
 
   abbrev sheet : List ℕ
   sheet = now (start .args .sheet)
@@ -59,7 +58,7 @@ module _ (k : tie.After-check) where
       (output (now (start .args .numbers)) (now (start .args .line-labels)))
 
   octets : Bytes sheet
-  octets i = omega (arith, k .before .before .before .before .before .before .shared-slice-known .given i)
+  octets i = omega (arith, k .before .before .before .before .shared-slice-known .given i)
 
   abbrev answered : Decoded
   answered = startTagged sheet (readTable rules) row runs space fuel
@@ -67,7 +66,7 @@ module _ (k : tie.After-check) where
   checked : k .check .result ≡ checkAnswer answered
   checked =
       k .check .ensures
-      ∙ ap (λ own. checkAnswer (startOf sheet (runs .lent .cells .labels) (given runs fuel) own)) (k .before .before .own .ensures)
+      ∙ ap (λ own. checkAnswer (startOf sheet (runs .lent .cells .labels) (given runs fuel) own)) (ap (λ (x : Found). x .own) (k .before .before .rules .ensures))
 
 -- and all were kept
 module _ (a : tie.After-checked2) where
@@ -85,13 +84,12 @@ module _ (a : tie.After-checked2) where
   table : (t : Table) × Ready (sheet kept) (rules kept) (row kept) (runs kept) (space kept) (fuel kept) (program .0) t
   table = start-ready (sheet kept) (rules kept) (row kept) (runs kept) (space kept) (fuel kept) (program .0) (program .1)
 
-  size-is : kept .before .before .before .size .result ≡ length (translate (table .0))
-  size-is =
-      kept .before .before .before .size .ensures ∙ ap sizeOf (kept .before .before .before .before .measure .ensures)
-      ∙ ap (λ q. sizeOf (measureOf q)) (table .1 .rules)
+  -- the handler's length
+  abbrev size : ℕ
+  size = kept .before .before .rules .result .size
 
-own-requires : tie.Need-own-requires
-own-requires c κs = c .before .measure .ensures
+  size-is : size ≡ length (translate (table .0))
+  size-is = ap (λ (x : Found). x .size) (kept .before .before .rules .ensures) ∙ ap (λ q. length (handlerOf q)) (table .1 .rules)
 
 go-requires : tie.Need-go-requires
 go-requires c κs =
@@ -120,13 +118,12 @@ returns-2 c =
     let t = table a in
     let loaded = load .write .last .1 .0 in
     let handled = written .write2 .last .1 .0 in
-    let size = k .before .before .before .size .result in
     let x = g .go .last .1 .1 .1 .1 .1 .1 .1 in
     let y = x .1 .1 .1 in
     let r = g .go .result in
-    let ω = tagWords (handleSpace handled size) in
+    let ω = tagWords (handleSpace handled (size a)) in
     execute-accepted (sheet k) (rules k) (row k) (runs k) (space k) (fuel k) (octets k) (program a .0) (program a .1) (t .0) (t .1)
-    (count a) (program a .2) loaded handled size
+    (count a) (program a .2) loaded handled (size a)
     (load .write .ensures ∙ written-accepted (sheet k) (program a .0) _ (t .1 .fine .decoded) (t .1 .fine .program))
     (written .write2 .ensures ∙ written-table (rules k) (t .0) _ (t .1 .rules) (t .1 .fits)) (size-is a)
     (done (r .ran) (tag (r .cache .words) (r .faults) (r .kernel)) (lent (x .0) (cells (x .1 .0) (x .1 .1 .0))) (output (y .0) (y .1 .0)))
@@ -138,8 +135,6 @@ execute-spec =
     tie.close
     (tie.spec
     (λ c κs. search needs)
-    (λ c κs. search needs)
-    own-requires
     (λ c κs. search needs)
     (λ c. search needs)
     (λ c. search needs)

@@ -1,24 +1,25 @@
--- `translator::count` meets its contract, by what is measured.
+-- `translator::count` meets its contract, by the check.
 -- Assumes nothing.
-use mathlib.Core.Path.{_∙_, sym}
+use mathlib.Core.Path.{_∙_, sym, ap}
 use denote.Ref.{now}
+use lib.ListN.{length}
 use Rattle.policy.specs.Read.{readTable}
-use Rattle.translator.proofs.Translating.{measured-count, refused-count}
+use Rattle.translator.proofs.Translating.{accepted-handler, refused-handler}
 use borrow.Author.Needs.{needs}
 use Rattle.translator.proofs.count.Statement.{statement}
 use Rattle.translator.proofs.count.Tie as tie
 
 returns : tie.Need-returns
 returns c =
-    let m = c .before .before .before in
-    measured-count (readTable (now (m .before .before .args .bytes))) (c .before .measured .given .0 .0)
-    (sym (m .measure .ensures) ∙ c .before .measured .given .1)
+    let t = c .before .before .before in
+    c .instructions .ensures
+    ∙ ap length (accepted-handler (now (t .before .before .args .bytes)) (sym (t .check-table .ensures) ∙ c .before .enum-told .given .1))
 
 returns-2 : tie.Need-returns-2
 returns-2 c =
-    let m = c .before .before in
-    refused-count (readTable (now (m .before .before .args .bytes))) (c .enum-told .given .0 .0)
-    (sym (m .measure .ensures) ∙ c .enum-told .given .1)
+    let t = c .before .before in
+    ap length (sym (refused-handler (readTable (now (t .before .before .args .bytes))) (c .enum-told2 .given .0 .0)
+    (sym (t .check-table .ensures) ∙ c .enum-told2 .given .1)))
 
 pub count-spec : {M : Type 1} → statement M
-count-spec = tie.close (tie.spec (λ c κs. search needs) (λ c. search needs) (λ c. search needs) returns returns-2)
+count-spec = tie.close (tie.spec (λ c κs. search needs) (λ c. search needs) (λ c κs. search needs) (λ c. search needs) returns returns-2)

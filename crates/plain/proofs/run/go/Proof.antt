@@ -3,7 +3,12 @@
 use borrow.Author.Needs.{needs}
 use native.Mathlib.Omega.{arith}
 use mathlib.Core.Path.{_≡_, _∙_, sym, ap, ap₂}
-use Prim.Native.Nat.{ℕ, _-_, _<_}
+use Prim.Native.Nat.{ℕ, _-_, _<_, _≤_}
+use mathlib.Core.Bool.{true, false, _&&_, not}
+use lib.Dec.{leb, eqb}
+use lib.ListN.{length}
+use borrow.Author.Tests.{le-leb, eq-eqb}
+use Rattle.word.proofs.Bool.{never}
 use lib.IntN.{ℤ}
 use denote.Ref.{now}
 use Rattle.word.specs.declared.number.Index.the-variants.{At}
@@ -52,7 +57,7 @@ module _ (a : tie.After-known-told Inv-loop μ-loop) where
   head = a .before .before .before .before .before
 
   abbrev start : tie.Start Inv-loop μ-loop
-  start = head .before .before
+  start = head .before .before .before
 
   taken : head .loop .steps < start .args .fuel
   taken = a .before .before .before .before .loop-test .taken
@@ -124,21 +129,34 @@ module _ (a : tie.After-machine Inv-loop μ-loop) where
       })
       (head found .loop .inv .1)
 
+-- the three tests hold
+tests : (stack values labels : ℕ) → 768 ≤ stack → values ≤ 1024 → values ≡ labels
+    → leb 768 stack && (leb values 1024 && eqb values labels) ≡ true
+tests stack values labels space cells same = rw (le-leb 768 stack space, le-leb values 1024 cells, eq-eqb values labels same)
+
+returns : tie.Need-returns Inv-loop μ-loop
+returns c =
+    let s = c .before .before in
+    let (few, fits, space, many, equal) = s .pre in
+    let yes = tests (length (now (s .args .stack))) (length (now (s .args .values))) (length (now (s .args .labels))) space many equal in
+    let no : false ≡ true = ap not (sym yes) ∙ c .if1 .taken in
+    never (cc)
+
 loop-holds : tie.Need-loop-holds Inv-loop μ-loop
-loop-holds c = rw (c .start .ensures) (going-start _ _ _ _ _ _ _ _, same-start _ _)
+loop-holds c = rw (c .before .start .ensures) (going-start _ _ _ _ _ _ _ _, same-start _ _)
 
 place-in-requires : tie.Need-place-in-requires Inv-loop μ-loop
-place-in-requires c κs = c .before .before .before .pre .0
+place-in-requires c κs = c .before .before .before .before .pre .0
 
 next-requires : tie.Need-next-requires Inv-loop μ-loop
 next-requires c κs =
     let a = c .before in
     (index-found _ _ _ (place a) .1, start a .pre .0, start a .pre .1, taken a)
 
-returns : tie.Need-returns Inv-loop μ-loop
-returns c =
+returns-2 : tie.Need-returns-2 Inv-loop μ-loop
+returns-2 c =
     let a = c .before in
-    going-stopped _ _ _ _ _ _ _ _ _ _ _ _ _ _ _ (chosen a .acting) _ (step a) _ _ (wrote a .emit .ensures) (c .if1 .taken)
+    going-stopped _ _ _ _ _ _ _ _ _ _ _ _ _ _ _ (chosen a .acting) _ (step a) _ _ (wrote a .emit .ensures) (c .if2 .taken)
 
 add-steps : tie.Need-add-steps Inv-loop μ-loop
 add-steps c = let a = c .before in record { fits = omega (arith, chosen a .acting .below, start (found a) .fits .fuel) }
@@ -149,17 +167,17 @@ loop-less c = let a = c .before in omega (arith, taken (found a), chosen a .sinc
 loop-again : tie.Need-loop-again Inv-loop μ-loop
 loop-again c =
     let a = c .before in
-    (going-on _ _ _ _ _ _ _ _ _ _ _ _ _ _ _ (chosen a .acting) _ (step a) _ _ (wrote a .emit .ensures) (c .if1 .left), same a)
+    (going-on _ _ _ _ _ _ _ _ _ _ _ _ _ _ _ (chosen a .acting) _ (step a) _ _ (wrote a .emit .ensures) (c .if2 .left), same a)
 
-returns-2 : tie.Need-returns-2 Inv-loop μ-loop
-returns-2 c =
+returns-3 : tie.Need-returns-3 Inv-loop μ-loop
+returns-3 c =
     let l = c .before .before .before .before .before in
     rw (c .end-or .ensures)
     (going-outside _ _ _ _ _ _ _ _ _ _ _ _ _ (l .loop .inv .0) (c .before .before .before .before .loop-test .taken)
     (sym (c .before .before .before .place-in .ensures) ∙ c .before .enum-told .given .1))
 
-returns-3 : tie.Need-returns-3 Inv-loop μ-loop
-returns-3 c = rw (c .end-or2 .ensures)
+returns-4 : tie.Need-returns-4 Inv-loop μ-loop
+returns-4 c = rw (c .end-or2 .ensures)
     (going-end _ _ _ _ _ _ _ _ _ _ _ _ _ (c .before .before .loop .inv .0) (c .before .loop-test .left))
 
 pub go-spec : {M : Type 1} → statement M
@@ -169,6 +187,7 @@ go-spec =
     Inv-loop
     μ-loop
     (λ c κs. search needs)
+    returns
     loop-holds
     place-in-requires
     (λ c. search needs)
@@ -180,7 +199,7 @@ go-spec =
     (λ c. same (c .before) .labels)
     (λ c. same (c .before) .numbers)
     (λ c. same (c .before) .lineLabels)
-    returns
+    returns-2
     add-steps
     loop-less
     loop-again
@@ -191,11 +210,11 @@ go-spec =
     (λ c. c .before .before .before .before .before .loop .inv .1 .labels)
     (λ c. c .before .before .before .before .before .loop .inv .1 .numbers)
     (λ c. c .before .before .before .before .before .loop .inv .1 .lineLabels)
-    returns-2
+    returns-3
     (λ c κs. search needs)
     (λ c. c .before .before .loop .inv .1 .stack)
     (λ c. c .before .before .loop .inv .1 .values)
     (λ c. c .before .before .loop .inv .1 .labels)
     (λ c. c .before .before .loop .inv .1 .numbers)
     (λ c. c .before .before .loop .inv .1 .lineLabels)
-    returns-3)
+    returns-4)

@@ -1,14 +1,22 @@
 -- `tables::row::allowed_row` meets its contract: by the command's shape, the row's labels and the verdict.
 -- Assumes nothing.
-use mathlib.Core.Path.{_∙_, sym}
+use mathlib.Core.Path.{_∙_, sym, refl}
 use denote.Ref.{now}
 use Rattle.word.proofs.Signed.{back-ok}
 use Rattle.program.specs.Command.{opcodeOf}
 use Rattle.policy.specs.Read.{readTable}
-use Rattle.tables.proofs.RowKeys.{row-unknown, row-nothing, row-found}
+use Rattle.tables.proofs.RowKeys.{shape-rule, row-unknown, row-nothing, row-found}
 use borrow.Author.Needs.{needs}
 use Rattle.tables.proofs.row.allowed_row.Statement.{statement}
 use Rattle.tables.proofs.row.allowed_row.Tie as tie
+
+rule-of-requires : tie.Need-rule-of-requires
+rule-of-requires c κs =
+    let s = c .before .before .before .before .before in
+    let h = s .before .before in
+    let a = h .before .before in
+    let r = shape-rule (a .args .code) (opcodeOf (a .args .code)) _ _ _ refl (sym (h .shape-of .ensures) ∙ s .shape .given .1) in
+    (a .pre, r .0, r .1)
 
 returns : tie.Need-returns
 returns c =
@@ -36,7 +44,7 @@ returns-3 c =
     let a = h .before .before .args in
     rw (
       c .agrees .ensures,
-      v .evaluate .ensures,
+      v .rule-of .ensures,
       back-ok (g .before .get .result) (g .before .get .ok) ∙ g .before .get .ensures,
       back-ok (g .get2 .result) (g .get2 .ok) ∙ g .get2 .ensures,
     )
@@ -53,7 +61,7 @@ allowed-row-spec =
     (λ c κs. search needs)
     (λ c. search needs)
     (λ c. search needs)
-    (λ c κs. search needs)
+    rule-of-requires
     (λ c κs. search needs)
     (λ c κs. search needs)
     (λ c κs. search needs)
