@@ -142,4 +142,5 @@ module _ (sheet : List ℕ) (m : Memory) (fuel : ℕ) where
 
 pub engines-agree : Claim
 engines-agree sheet m fuel row handler size p after e r u after′ handler′ f =
-    stops-one sheet m fuel p r after after′ (plain-stops sheet m fuel p after e) (tagged-stops sheet m fuel row size handler r u after′ handler′ f)
+    stops-one sheet m fuel p r after after′ (plain-stops sheet m fuel p after e)
+    (tagged-stops sheet m fuel row size handler r u after′ handler′ f)

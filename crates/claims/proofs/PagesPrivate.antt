@@ -56,7 +56,8 @@ shown-run : (h : Heard) (bytes : List ℕ) → answered (endFor (cellWordsOf h) 
     → Shown h bytes (runText (cellWordsOf h) (h .allowance) (h .reader) bytes)
 unfolding runText
 shown-run h bytes e =
-    let x : Left = endFor (cellWordsOf h) (h .allowance) bytes in go (x .ended .answer) (x .ended .ruler) (x .ended .memory) (x .handler) refl e
+    let x : Left = endFor (cellWordsOf h) (h .allowance) bytes in
+    go (x .ended .answer) (x .ended .ruler) (x .ended .memory) (x .handler) refl e
   where
     go : (a : Answer) (u : Tag) (m : Memory) (handler : List ℤ)
         → endFor (cellWordsOf h) (h .allowance) bytes ≡ left (ended a u m) handler → answered a ≡ Pages.ran

@@ -62,7 +62,8 @@ module _ (h : Heard) (few : Few h) (labels : labelsLimit 0 (h .labels) ≡ Kept)
   start-answered = go (started h bytes)
     where
       go : (d : Decoded)
-          → answered (taggedOf d (readTable standardBytes) (zeros 7) (lentFor (cellWordsOf h)) (zeros 302) (h .allowance) .ended .answer) ≡ startFate d
+          → answered (taggedOf d (readTable standardBytes) (zeros 7) (lentFor (cellWordsOf h)) (zeros 302) (h .allowance) .ended .answer)
+          ≡ startFate d
       go (refused r) = refl
       go (accepted cs) = refl
 

@@ -1,5 +1,5 @@
--- Demand 3 (specs/Privacy.antt): what an accepted run leaves on either engine is the machine's run of the sheet's commands under the standard
--- policy, from the same cells, and its lines stand in the output space; so the machine's theorem speaks of it.
+-- Demand 3 (specs/Privacy.antt): what an accepted run leaves on either engine is the machine's run of the sheet's commands under the
+-- standard policy, from the same cells, and its lines stand in the output space; so the machine's theorem speaks of it.
 -- Assumes nothing.
 use mathlib.Core.Path.{_≡_, sym, ap, ap₂, _∙_}
 use mathlib.Core.List.{List}

@@ -32,5 +32,9 @@ use Rattle.report.specs.Page.{runText, pageOf}
 use Rattle.claims.specs.Reading.{given, computed, expected, readings}
 
 pub readings-hold : map computed readings ≡ map expected readings
-unfolding given pageOf runText readJob readFrom itemAt fourAt lineText linesText digitsOf valueOf residue signed wrap addWrap subWrap bitsAt unsignedAt signedAt bytesOf laid digitChar numeral digitCount natural decimal hexadecimal union subset join flows stored lowLabel opcodeOf decodeFrom decode encode request execute step asked run along paired labelsLimit tokenOf tokenAt readLabel readCondition readRuleWith readRules readTable acceptedRow evaluate orWord effect handle Kernel.step Kernel.run compileRule translate matches consult startOf tagged
+unfolding given pageOf runText readJob readFrom itemAt fourAt lineText linesText digitsOf valueOf residue signed wrap addWrap subWrap
+    bitsAt unsignedAt signedAt bytesOf laid digitChar numeral digitCount natural decimal hexadecimal union subset join flows stored
+    lowLabel opcodeOf decodeFrom decode encode request execute step asked run along paired labelsLimit tokenOf tokenAt readLabel
+    readCondition readRuleWith readRules readTable acceptedRow evaluate orWord effect handle Kernel.step Kernel.run compileRule translate
+    matches consult startOf tagged
 readings-hold = refl

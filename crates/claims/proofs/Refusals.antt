@@ -196,7 +196,8 @@ tagged-owns bytes row handler (Read.refused r) e =
 tagged-owns bytes row handler (table t) e =
     record {
       rules = passes (λ q f. let k = sym f ∙ e in never (cc));
-      row = λ k. table-decides bytes t e (λ u. acceptedRow u row ≡ false) (acceptedRow t row) (λ f g. let z = sym f ∙ g in never (cc)) (λ f. f);
+      row = λ k. table-decides bytes t e (λ u. acceptedRow u row ≡ false) (acceptedRow t row) (λ f g. let z = sym f ∙ g in never (cc))
+          (λ f. f);
       handler = λ k. table-decides bytes t e (λ u. length handler < 2 * length (translate u)) _ (enough _ _) (leb-false _ _);
     }
 
@@ -230,4 +231,5 @@ tagged-demand sheet m fuel bytes row handler =
     start-decides sheet m fuel (taggedOwn bytes row handler) (ownOf (readTable bytes) row (length handler))
     (tagged-owns bytes row handler (readTable bytes) refl) (decode sheet) refl in
     let d = startTagged sheet (readTable bytes) row m handler fuel in
-    tagged-left sheet m fuel bytes row handler d decides (engine-demand (tagRuler (handlerOf (readTable bytes))) (tagOf row) m fuel d decides)
+    tagged-left sheet m fuel bytes row handler d decides
+    (engine-demand (tagRuler (handlerOf (readTable bytes))) (tagOf row) m fuel d decides)

@@ -235,6 +235,7 @@ module _ (sheet : List ℕ) (m : Memory) (fuel : ℕ) (own : Own) where
     loop-whole ω ρ follows answers u count n program p d g =
         let q =
         g ∙ ap₂ (λ n x. loopOf ω n (room (m .output)) x fuel 0 started u (m .lent) (m .output)) n p
-        ∙ loop-run ω ρ follows answers cs (m .program) (room (m .output)) (m .output) signed fuel (begin m) started u (m .lent) (m .output) 0
+        ∙ loop-run ω ρ follows answers cs (m .program) (room (m .output)) (m .output) signed fuel (begin m) started u (m .lent)
+        (m .output) 0
         holds sound refl in
         ap₂ (λ d x. ended (Answer.Stopped (d .ran)) (d .ruler) (memory x (d .lent) (d .output))) q p

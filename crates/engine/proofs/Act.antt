@@ -41,7 +41,8 @@ use Rattle.engine.proofs.Link.Command.{store-looks, jump-looks, bnz-loo
 abbrev Leads : Command → State → Type 0
 Leads c s = (n : ℤ) → c ≡ Bnz n → Signed 64 (s .pc .number +ℤ n)
 
-module _ {room : ℕ} {o₀ : Memory.Output} {s : State} {l : Lent} {o : Memory.Output} (r : Represents o₀ s (machineOf s) l o) (h : Sound room o₀ s l)
+module _ {room : ℕ} {o₀ : Memory.Output} {s : State} {l : Lent} {o : Memory.Output} (r : Represents o₀ s (machineOf s) l o)
+    (h : Sound room o₀ s l)
     (on : Signed 64 (s .pc .number +ℤ pos 1)) where
   command-looks : (c : Command) → Leads c s → Looks c (machineOf s) l room o₀ o (request room c s) (found c (machineOf s) l)
   command-looks Add to = add-looks r h on
@@ -64,7 +65,8 @@ module _ {room : ℕ} {o₀ : Memory.Output} {s : State} {l : Lent} {o : Memory.
 abbrev pub Follows : {R : Type 0} → WordRuler R → Ruler R → Type 0
 Follows {R} ω ρ = (u : R) (k : Key) → WellMarked k → ω u (askedFor k) ≡ ρ u k
 
-module _ {R : Type 0} (ω : WordRuler R) (ρ : Ruler R) (follows : Follows ω ρ) (room : ℕ) (o₀ : Memory.Output) (c : Command) (s : State) (u : R)
+module _ {R : Type 0} (ω : WordRuler R) (ρ : Ruler R) (follows : Follows ω ρ) (room : ℕ) (o₀ : Memory.Output) (c : Command) (s : State)
+    (u : R)
     (l : Lent) (o : Memory.Output) where
   abbrev m : Machine
   m = machineOf s
@@ -95,7 +97,8 @@ module _ {R : Type 0} (ω : WordRuler R) (ρ : Ruler R) (follows : Follows ω ρ
         refl,
       )
 
-  pub act-both : Represents o₀ s m l o → Sound room o₀ s l → (cs : List Command) → ProgramHas (Signed 64) cs → CommandAt cs (s .pc .number) c
+  pub act-both : Represents o₀ s m l o → Sound room o₀ s l → (cs : List Command) → ProgramHas (Signed 64) cs
+      → CommandAt cs (s .pc .number) c
       → let a : Acted R = actOf ω (pos (codeOf (opcode c))) (operand c) m u l in
       Simulates room o₀ m l o (execute (rules ρ u) room c s) (a .after) × (a .ruler ≡ askedBy ρ c s u (request room c s))
   unfolding actOf execute

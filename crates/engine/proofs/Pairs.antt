@@ -39,4 +39,5 @@ lines-read ls o h = go ls (drop (length (lineNumbers ls)) (o .numbers)) (drop (l
         → take (length ls) (paired (λ n l. record { number = n; label = l }) (lineNumbers ls ++ ns) (lineLabels ls ++ ms)) ≡ ls
     go [] ns ms h = refl
     go (l ∷ ls) ns ms h =
-        ap₂ (λ (n : ℕ) (xs : List Line). record { number = l .number; label = n } ∷ xs) (lowLabel-id (l .label) (h .0 .1)) (go ls ns ms (h .1))
+        ap₂ (λ (n : ℕ) (xs : List Line). record { number = l .number; label = n } ∷ xs) (lowLabel-id (l .label) (h .0 .1))
+        (go ls ns ms (h .1))

@@ -16,7 +16,8 @@ use Rattle.exports.specs.Row.{givenRow, leftRow}
 use Rattle.exports.specs.Exported.{plainLeft, exportedPlain, taggedLeft, exportedTagged}
 
 module _ (sheet : List ℕ) (m : Memory) (fuel : ℕ) (r : LuvrodanResult) (after : Memory) where
-  pub plain-left : (a : Answer) → r ≡ resultOf a 0 0 → ended a tt after ≡ plain sheet m fuel → plainLeft r after ≡ exportedPlain sheet m fuel
+  pub plain-left : (a : Answer) → r ≡ resultOf a 0 0 → ended a tt after ≡ plain sheet m fuel
+      → plainLeft r after ≡ exportedPlain sheet m fuel
   unfolding exportedPlain
   plain-left a e d =
       ap (λ (x : LuvrodanResult). plainLeft x after) e
@@ -32,6 +33,7 @@ module _ (sheet : List ℕ) (m : Memory) (fuel : ℕ) (r : LuvrodanResult) (afte
         ap (λ (x : LuvrodanResult). taggedLeft x row after space) e
         ∙ ap (λ (x : List ℤ). taggedLeft (resultOf (a .answer) (a .faults) (a .kernel)) x after space) l
         ∙ ap (λ (x : Left).
-        taggedLeft (resultOf (x .ended .answer) (x .ended .ruler .faults) (x .ended .ruler .kernelSteps)) (leftRow (x .ended .ruler .row) lent)
+        taggedLeft (resultOf (x .ended .answer) (x .ended .ruler .faults) (x .ended .ruler .kernelSteps))
+        (leftRow (x .ended .ruler .row) lent)
         (x .ended .memory) (x .handler))
         (d ∙ ap (λ (x : List ℤ). tagged sheet bytes x m handler fuel) g)

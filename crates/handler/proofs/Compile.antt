@@ -93,11 +93,14 @@ module _ (n m : ℕ) (k : Key) (reads : Reads m k) where
     label-run empty rest s h d = exec-push n rest s (keyRow k p r) (pos 0) (omega arith)
     label-run place rest s h d = exec-read n rest s (keyRow k p r) 1 (pos (k .pc)) refl (omega arith)
     label-run input1 rest s h d =
-        exec-read n rest s (keyRow k p r) 2 (pos (labelOf (k .input1))) (ap some (readable-word (k .input1) (reads .input1 h))) (omega arith)
+        exec-read n rest s (keyRow k p r) 2 (pos (labelOf (k .input1))) (ap some (readable-word (k .input1) (reads .input1 h)))
+        (omega arith)
     label-run input2 rest s h d =
-        exec-read n rest s (keyRow k p r) 3 (pos (labelOf (k .input2))) (ap some (readable-word (k .input2) (reads .input2 h))) (omega arith)
+        exec-read n rest s (keyRow k p r) 3 (pos (labelOf (k .input2))) (ap some (readable-word (k .input2) (reads .input2 h)))
+        (omega arith)
     label-run input3 rest s h d =
-        exec-read n rest s (keyRow k p r) 4 (pos (labelOf (k .input3))) (ap some (readable-word (k .input3) (reads .input3 h))) (omega arith)
+        exec-read n rest s (keyRow k p r) 4 (pos (labelOf (k .input3))) (ap some (readable-word (k .input3) (reads .input3 h)))
+        (omega arith)
     label-run (join a b) rest s h d =
         simp append-assoc
         (label-run a _ s (h .0) (omega arith)

@@ -5,7 +5,8 @@ use mathlib.Core.List.{List, [], _∷_, _++_, map}
 use Prim.Native.Nat.{ℕ, suc, _+_, _*_, _≤_}
 use native.Mathlib.Omega.{arith}
 use lib.ListN.{length, length-append, length-map}
-use Rattle.policy.specs.Expression.{LabelExpr, empty, place, input1, input2, input3, join, Condition, flows, always, both, either, Rule, Table}
+use Rattle.policy.specs.Expression.{LabelExpr, empty, place, input1, input2, input3, join, Condition, flows, always, both, either}
+use Rattle.policy.specs.Expression.{Rule, Table}
 use Rattle.handler.specs.Kernel.{Instruction}
 use Rattle.handler.specs.Translate.{compileLabel, compileCondition, compileAnswer, compileIf, compileRule, guarded, slots, concat}
 use Rattle.handler.specs.Translate.{dispatch, translate}

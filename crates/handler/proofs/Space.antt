@@ -98,7 +98,8 @@ held-laid : (code : List Instruction) (old : List ℤ) (i : ℕ) → held (laid 
 held-laid code old i = by (ltb i (length code)) refl
   where
     by : (b : Bool) → ltb i (length code) ≡ b
-        → heldIf (b && ltb (2 * i + 1) (length (laid (kernelWords code) old))) (instructionAt (laid (kernelWords code) old) i) ≡ getElem? code i
+        → heldIf (b && ltb (2 * i + 1) (length (laid (kernelWords code) old))) (instructionAt (laid (kernelWords code) old) i)
+        ≡ getElem? code i
     by true e =
         let h = ltb-true i (length code) e in
         rw (lt-ltb (2 * i + 1) (length (laid (kernelWords code) old)) (omega (arith, laid-long code old))) (instructionAt-laid code old i h)

@@ -32,7 +32,8 @@ join-le a b h g = omega (arith, join-bitOr a b h g, or-add-and a b, and-le-l a b
 -- a join is zero exactly where both parts are
 pub join-zero : (a b : ℕ) → InRange a → InRange b → (eqb a 0 && eqb b 0) ≡ eqb (join b a) 0
 join-zero zero zero h g = rw (join-bottom 0 h)
-join-zero zero (suc b) h g = rw (eqb·suc-zero b) (sym (ne-eqb (join (suc b) 0) 0 (λ e. omega (arith, join-le 0 (suc b) h g, join-comm 0 (suc b)))))
+join-zero zero (suc b) h g =
+    rw (eqb·suc-zero b) (sym (ne-eqb (join (suc b) 0) 0 (λ e. omega (arith, join-le 0 (suc b) h g, join-comm 0 (suc b)))))
 join-zero (suc a) b h g = rw (eqb·suc-zero a) (sym (ne-eqb (join b (suc a)) 0 (λ e. omega (arith, join-le b (suc a) g h))))
 
 pub difference-zero : (a b : ℕ) → b ≤ a → eqb a b ≡ eqb (a - b) 0

@@ -149,7 +149,8 @@ module _ (place d : ℕ) (st : List ℤ) where
   unfolding DoesOn effect
   load-out row st′ h e o = sym (value-one st d _ h ∙ word-out row _ _ e o)
 
-  pub load-done : (row : List ℤ) (i : ℕ) → 1 ≤ d → d ≤ 64 → length st ≡ 64 → length row ≡ 7 → indexOf (getD st (d - 1) (pos 0)) 7 ≡ Index.At i
+  pub load-done : (row : List ℤ) (i : ℕ) → 1 ≤ d → d ≤ 64 → length st ≡ 64 → length row ≡ 7
+      → indexOf (getD st (d - 1) (pos 0)) 7 ≡ Index.At i
       → DoesOn row Load place d st (going (place + 1) d) (set st (d - 1) (getD row i (pos 0)))
   unfolding DoesOn effect
   load-done row i h l g e o =
@@ -160,7 +161,8 @@ module _ (place d : ℕ) (st : List ℤ) where
   unfolding Does DoesOn effect
   store-none st′ h row e = sym (values-none st d _ h)
 
-  pub store-out : (st′ : List ℤ) → 2 ≤ d → indexOf (getD st (d - 1) (pos 0)) 7 ≡ Index.Outside → Does Store place d st (ending How.Failed) st′
+  pub store-out : (st′ : List ℤ) → 2 ≤ d → indexOf (getD st (d - 1) (pos 0)) 7 ≡ Index.Outside
+      → Does Store place d st (ending How.Failed) st′
   unfolding Does DoesOn effect
   store-out st′ h o row e = sym (values-two st d _ h ∙ word-out row _ _ e o)
 
@@ -237,7 +239,8 @@ module _ (place d : ℕ) (st : List ℤ) where
     bnz-target a target r row h q t f =
         f ∙ sym (value-one st d (λ b rest. jumping place (branch b (pos place) z) rest row) h ∙ rw (q, t))
 
-    pub bnz-zero : (n : ℕ) → 1 ≤ d → wholeOf (getD st (d - 1) (pos 0)) ≡ Whole.At n → n ≡ 0 → Does (Bnz z) place d st (going (place + 1) (d - 1)) st
+    pub bnz-zero : (n : ℕ) → 1 ≤ d → wholeOf (getD st (d - 1) (pos 0)) ≡ Whole.At n → n ≡ 0
+        → Does (Bnz z) place d st (going (place + 1) (d - 1)) st
     unfolding Does DoesOn
     bnz-zero n h w q row e =
         bnz-target (pos 0) (pos (place + 1)) (going (place + 1) (d - 1)) row h (whole-at _ n w ∙ ap pos q) refl
@@ -251,10 +254,12 @@ module _ (place d : ℕ) (st : List ℤ) where
         bnz-target (pos (suc n)) (pos place +ℤ z) (branching z place (d - 1)) row h (whole-at _ (suc n) w) refl
         (branch-effect place (d - 1) st row e z)
 
-    pub bnz-below : (n : ℕ) → 1 ≤ d → wholeOf (getD st (d - 1) (pos 0)) ≡ Whole.Below n → Does (Bnz z) place d st (branching z place (d - 1)) st
+    pub bnz-below : (n : ℕ) → 1 ≤ d → wholeOf (getD st (d - 1) (pos 0)) ≡ Whole.Below n
+        → Does (Bnz z) place d st (branching z place (d - 1)) st
     unfolding Does DoesOn
     bnz-below n h w row e =
-        bnz-target (negsuc n) (pos place +ℤ z) (branching z place (d - 1)) row h (whole-below _ n w) refl (branch-effect place (d - 1) st row e z)
+        bnz-target (negsuc n) (pos place +ℤ z) (branching z place (d - 1)) row h (whole-below _ n w) refl
+        (branch-effect place (d - 1) st row e z)
 
 -- ════════════════════════════════════════════════════════════════════════════════════════════
 -- The instruction that a code stands for

@@ -125,7 +125,8 @@ module _ (count : ℕ) (space row₀ : List ℤ) where
             rw e (act-at (instructionAt space place) (state place depth stack row steps) ∙ sym a)
 
         by : (e : Effect) → effectOf r stack′ row ≡ e
-            → after e (state place depth stack row steps) (λ y. run (held space count) (count - (steps + 1)) y) ≡ handleSpace space count row₀
+            → after e (state place depth stack row steps) (λ y. run (held space count) (count - (steps + 1)) y)
+            ≡ handleSpace space count row₀
         by e f = rw (here ∙ f) at next
 
         pub going-returned : r .how ≡ How.Returned → result returned row (steps + 1) ≡ handleSpace space count row₀

@@ -140,7 +140,8 @@ subset-right n a b = rw (union-comm n a b) (subset-left n b a)
 pub subset-union : (n a b : ℕ) → b < 2 ^ n → subset n a b ≡ eqb (union n a b) b
 subset-union n a b h =
     bool-ext (subset n a b) (eqb (union n a b) b)
-    (λ s. yes-eqb (subset-antisym n (union n a b) b (union-lt n a b) h (rw (union-subset n a b b) (and-intro (subset n a b) (subset n b b) s (subset-refl n b))) (subset-right n a b)))
+    (λ s. yes-eqb (subset-antisym n (union n a b) b (union-lt n a b) h
+    (rw (union-subset n a b b) (and-intro (subset n a b) (subset n b b) s (subset-refl n b))) (subset-right n a b)))
     (λ s. subst (λ u. T (subset n a u)) (eqb-yes s) (subset-left n a b))
 
 -- ════════════════════════════════════════════════════════════════════════════════════════════
@@ -178,7 +179,8 @@ Within n a b = (i : ℕ) → i < n → T (member i a) → T (member i b)
 pub subset-within : (n a b : ℕ) → T (subset n a b) → Within n a b
 subset-within zero a b s i h m = absurd (omega arith)
 subset-within (suc n) a b s zero h m =
-    rw (member-zero b) (yes-eqb {a = b % 2} {b = 1} (omega (arith, subset-bit n a b s, eqb-yes {a = a % 2} {b = 1} (rw (member-zero a) at m))))
+    rw (member-zero b) (yes-eqb {a = b % 2} {b = 1}
+    (omega (arith, subset-bit n a b s, eqb-yes {a = a % 2} {b = 1} (rw (member-zero a) at m))))
 subset-within (suc n) a b s (suc i) h m =
     rw (member-suc i b) (subset-within n (a / 2) (b / 2) (subset-half n a b s) i (omega arith) (rw (member-suc i a) at m))
 

@@ -22,7 +22,8 @@ pub data Outcome : Type 0 where
   stopped : Stop → Outcome
   stepped : State → Outcome
 
--- what a command comes to before its rule: a stop, or its inputs' labels and what it does under the rule's two labels, first the new place label
+-- what a command comes to before its rule: a stop, or its inputs' labels and what it does under the rule's two labels, first the new place
+-- label
 pub data Request : Type 0 where
   halt : Stop → Request
   ask : Input → Input → Input → (ℕ → ℕ → Outcome) → Request

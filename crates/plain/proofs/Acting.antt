@@ -24,12 +24,14 @@ module _ (word operand : ℤ) (m : Machine) (l : Lent) (i : Inputs) (found : i �
 
   -- the test of the stop decides
   by-stop : (b : Bool) → eqb (i .stop) carriedOut ≡ b
-      → choose b (ruled standardRuler word operand m tt l (ruling standardRuler word operand m tt l i .verdict)) (after (outcome m (i .stop)) l) ≡ acts
+      → choose b (ruled standardRuler word operand m tt l (ruling standardRuler word operand m tt l i .verdict))
+      (after (outcome m (i .stop)) l) ≡ acts
   unfolding actOf
   by-stop b e = chosen b e ∙ ap (λ (j : Inputs). actFound standardRuler word operand m tt l j .after) found
     where
       chosen : (b : Bool) → eqb (i .stop) carriedOut ≡ b
-          → choose b (ruled standardRuler word operand m tt l (ruling standardRuler word operand m tt l i .verdict)) (after (outcome m (i .stop)) l)
+          → choose b (ruled standardRuler word operand m tt l (ruling standardRuler word operand m tt l i .verdict))
+          (after (outcome m (i .stop)) l)
           ≡ actFound standardRuler word operand m tt l i .after
       chosen true e = rw e
       chosen false e = rw e

@@ -60,7 +60,8 @@ fn push(operand: i64, m: Machine, stack: &mut [i64]) -> Stepped
 
 // Load: P; L1+L2.
 fn load(m: Machine, stack: &mut [i64], values: &[i64], labels: &[i64]) -> Stepped
-    ensures { λ r. ⌜ ((word operand : ℤ) → residue 64 word ≡ 6 → after r (lent (now (stack .exit)) (cells (now (values .entry)) (now (labels .entry))))
+    ensures { λ r. ⌜ ((word operand : ℤ) → residue 64 word ≡ 6
+        → after r (lent (now (stack .exit)) (cells (now (values .entry)) (now (labels .entry))))
         ≡ actOf standardRuler word operand m tt (lent (now (stack .entry)) (cells (now (values .entry)) (now (labels .entry)))) .after) ⌝ }
 {
     let found = find::load_cell(m, stack, values, labels);
@@ -72,7 +73,8 @@ fn load(m: Machine, stack: &mut [i64], values: &[i64], labels: &[i64]) -> Steppe
 
 // Store: allowed if L1+P flows to L3; P; L1+L2+P labels the cell.
 fn store(m: Machine, stack: &[i64], values: &mut [i64], labels: &mut [i64]) -> Stepped
-    ensures { λ r. ⌜ ((word operand : ℤ) → residue 64 word ≡ 7 → after r (lent (now (stack .entry)) (cells (now (values .exit)) (now (labels .exit))))
+    ensures { λ r. ⌜ ((word operand : ℤ) → residue 64 word ≡ 7
+        → after r (lent (now (stack .entry)) (cells (now (values .exit)) (now (labels .exit))))
         ≡ actOf standardRuler word operand m tt (lent (now (stack .entry)) (cells (now (values .entry)) (now (labels .entry)))) .after) ⌝ }
 {
     let found = find::store_cell(m, stack, values, labels);

@@ -12,10 +12,14 @@ use borrow.Author.Tests.{leb-true}
 use Rattle.program.specs.Command.{Opcode, opcodes, supplies, hasResult}
 use Rattle.policy.specs.declared.Token.{Token}
 use Rattle.policy.specs.declared.Token.the-variants.{Empty, Place, Input1, Input2, Input3, Join, Flows, True, And, Or, Nothing}
-use Rattle.policy.specs.Expression.{LabelExpr, empty, place, input1, input2, input3, join, Condition, flows, both, either, Rule, Table}
+use Rattle.policy.specs.Expression.{LabelExpr, empty, place, input1, input2, input3, join, Condition, flows, both, either, Rule}
+use Rattle.policy.specs.Expression.{Table}
 use Rattle.policy.specs.Token.{tokenAt, tokenOption}
-use Rattle.policy.specs.Read.{Read, fault, found, andThen, readTwo, readIf, labelFrom, readLabel, conditionFrom, readCondition, depthLimit, emptyByte, resultIf, readRuleWith, prepend, readRules, table, wholeIf, whole, tableLimit, tableIf, readTable}
-use Rattle.policy.specs.Write.{writeLabel, writeCondition, writeRule, writeTable, labelDepth, conditionDepth, LabelSupplied, ConditionSupplied, ResultWritable, RuleWritable, RulesWritable, TableWritable}
+use Rattle.policy.specs.Read.{Read, fault, found, andThen, readTwo, readIf, labelFrom, readLabel, conditionFrom, readCondition}
+use Rattle.policy.specs.Read.{depthLimit, emptyByte, resultIf, readRuleWith, prepend, readRules, table, wholeIf, whole}
+use Rattle.policy.specs.Read.{tableLimit, tableIf, readTable}
+use Rattle.policy.specs.Write.{writeLabel, writeCondition, writeRule, writeTable, labelDepth, conditionDepth, LabelSupplied}
+use Rattle.policy.specs.Write.{ConditionSupplied, ResultWritable, RuleWritable, RulesWritable, TableWritable}
 
 -- what is found has a property, with the offset after it
 abbrev Good : {A : Type 0} → (A → ℕ → Type 0) → Read A → Type 0
@@ -70,7 +74,8 @@ module _ (n : ℕ) (bytes : List ℕ) where
     within : next ≤ length bytes
 
   -- one byte, where its input is supplied
-  lone : (depth at : ℕ) (e : LabelExpr) (b : Bool) → labelDepth e ≡ 1 → length (writeLabel e) ≡ 1 → (b ≡ true → LabelSupplied n e) → at < length bytes
+  lone : (depth at : ℕ) (e : LabelExpr) (b : Bool) → labelDepth e ≡ 1 → length (writeLabel e) ≡ 1 → (b ≡ true → LabelSupplied n e)
+      → at < length bytes
       → Good (LabelFound (suc depth) at) (readIf b e at)
   lone depth at e true d w s h = record { deep = omega arith; supplied = s refl; size = omega arith; within = omega arith }
   lone depth at e false d w s h = tt
@@ -88,7 +93,8 @@ module _ (n : ℕ) (bytes : List ℕ) where
         within = q .within;
       }))
 
-  label-from : (depth at : ℕ) (t : Token) → tokenAt bytes at ≡ t → (inner : ℕ → Read LabelExpr) → ((at : ℕ) → Good (LabelFound depth at) (inner at))
+  label-from : (depth at : ℕ) (t : Token) → tokenAt bytes at ≡ t → (inner : ℕ → Read LabelExpr)
+      → ((at : ℕ) → Good (LabelFound depth at) (inner at))
       → Good (LabelFound (suc depth) at) (labelFrom t n at inner)
   unfolding writeLabel
   label-from depth at Empty e inner g = lone depth at empty true refl refl (λ b. tt) (token-lt bytes at Empty e tt)
@@ -117,8 +123,10 @@ module _ (n : ℕ) (bytes : List ℕ) where
   flowing : (depth at : ℕ) → Good (ConditionFound (suc depth) at) (readTwo (readLabel depth n bytes) flows (at + 1))
   unfolding writeCondition
   flowing depth at =
-      then-good (LabelFound depth (at + 1)) (ConditionFound (suc depth) at) (readLabel depth n bytes (at + 1)) _ (label-found depth (at + 1)) (λ a next p.
-      then-good (LabelFound depth next) (ConditionFound (suc depth) at) (readLabel depth n bytes next) _ (label-found depth next) (λ b end q.
+      then-good (LabelFound depth (at + 1)) (ConditionFound (suc depth) at) (readLabel depth n bytes (at + 1)) _
+      (label-found depth (at + 1)) (λ a next p.
+      then-good (LabelFound depth next) (ConditionFound (suc depth) at) (readLabel depth n bytes next) _ (label-found depth next)
+      (λ b end q.
       record {
         deep = let x = p .deep in let y = q .deep in omega arith;
         supplied = (p .supplied, q .supplied);
@@ -143,7 +151,8 @@ module _ (n : ℕ) (bytes : List ℕ) where
           within = q .within;
         }))
 
-  condition-from : (depth at : ℕ) (t : Token) → tokenAt bytes at ≡ t → (inner : ℕ → Read Condition) → ((at : ℕ) → Good (ConditionFound depth at) (inner at))
+  condition-from : (depth at : ℕ) (t : Token) → tokenAt bytes at ≡ t → (inner : ℕ → Read Condition)
+      → ((at : ℕ) → Good (ConditionFound depth at) (inner at))
       → Good (ConditionFound (suc depth) at) (conditionFrom t at (readLabel depth n bytes) inner)
   unfolding writeCondition
   condition-from depth at Empty e inner g = tt
@@ -241,10 +250,12 @@ module _ (bytes : List ℕ) where
   unfolding readRules writeTable
   rules-found [] at = record { fits = tt; size = omega arith; within = λ h. h }
   rules-found (o ∷ os) at =
-      then-good (RuleFound o at) (RulesFound (o ∷ os) at) (readRuleWith (supplies o) (hasResult o) bytes at) (λ r next. prepend r (readRules os bytes next))
+      then-good (RuleFound o at) (RulesFound (o ∷ os) at) (readRuleWith (supplies o) (hasResult o) bytes at)
+      (λ r next. prepend r (readRules os bytes next))
       (rule-found o at) (λ r next p. more r next p (readRules os bytes next) (rules-found os next))
     where
-      more : (r : Rule) (next : ℕ) → RuleFound o at r next → (x : Read Table) → Good (RulesFound os next) x → Good (RulesFound (o ∷ os) at) (prepend r x)
+      more : (r : Rule) (next : ℕ) → RuleFound o at r next → (x : Read Table) → Good (RulesFound os next) x
+          → Good (RulesFound (o ∷ os) at) (prepend r x)
       more r next p (fault y) g = tt
       more r next p (found t end) g =
           record {
@@ -265,7 +276,8 @@ pub read-writable : (bytes : List ℕ) (t : Table) → readTable bytes ≡ table
 unfolding readTable
 read-writable bytes t e = limited (leb (length bytes) tableLimit) refl e
   where
-    left : (r : Read Table) → Good (RulesFound bytes opcodes 0) r → length bytes ≤ tableLimit → whole (length bytes) r ≡ table t → TableWritable t
+    left : (r : Read Table) → Good (RulesFound bytes opcodes 0) r → length bytes ≤ tableLimit → whole (length bytes) r ≡ table t
+        → TableWritable t
     left (fault at) g h e = never (cc)
     left (found u end) g h e = go (ltb end (length bytes)) e
       where

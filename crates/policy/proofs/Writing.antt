@@ -8,10 +8,13 @@ use native.Mathlib.Omega.{arith}
 use lib.ListN.{length, drop, length-append}
 use borrow.Author.Tests.{le-leb, le-ltb}
 use Rattle.program.specs.Command.{Opcode, opcodes, supplies, hasResult}
-use Rattle.policy.specs.Expression.{LabelExpr, empty, place, input1, input2, input3, join, Condition, flows, always, both, either, Rule, Table}
+use Rattle.policy.specs.Expression.{LabelExpr, empty, place, input1, input2, input3, join, Condition, flows, always, both}
+use Rattle.policy.specs.Expression.{either, Rule, Table}
 use Rattle.policy.specs.Token.{tokenOf}
-use Rattle.policy.specs.Read.{Read, found, readTwo, readLabel, readCondition, depthLimit, resultIf, readRuleWith, readRule, readRules, table, readTable, tableLimit}
-use Rattle.policy.specs.Write.{writeLabel, writeCondition, writeRule, writeTable, labelDepth, conditionDepth, LabelSupplied, ConditionSupplied, ResultWritable, RuleWritable, RulesWritable, TableWritable}
+use Rattle.policy.specs.Read.{Read, found, readTwo, readLabel, readCondition, depthLimit, resultIf, readRuleWith, readRule}
+use Rattle.policy.specs.Read.{readRules, table, readTable, tableLimit}
+use Rattle.policy.specs.Write.{writeLabel, writeCondition, writeRule, writeTable, labelDepth, conditionDepth, LabelSupplied}
+use Rattle.policy.specs.Write.{ConditionSupplied, ResultWritable, RuleWritable, RulesWritable, TableWritable}
 use Rattle.policy.proofs.Tokens.{getElem-drop, tokenAt-drop, drop-next, drop-past}
 
 -- reading bytes wherever something is written gives it, and the offset after it
@@ -49,7 +52,8 @@ label-written s (join a b) (suc d) n h k at rest e =
     (two-written s (readLabel d n s) join a b (writeLabel a) (writeLabel b)
     (label-written s a d n (omega arith) (k .0)) (label-written s b d n (omega arith) (k .1)) _ at rest e)
 
-condition-written : (s : List ℕ) (c : Condition) (d n : ℕ) → conditionDepth c ≤ d → ConditionSupplied n c → Reads s (readCondition d n s) c (writeCondition c)
+condition-written : (s : List ℕ) (c : Condition) (d n : ℕ) → conditionDepth c ≤ d → ConditionSupplied n c
+    → Reads s (readCondition d n s) c (writeCondition c)
 unfolding readCondition writeCondition tokenOf
 condition-written s (flows a b) zero n h k at rest e = absurd (omega arith)
 condition-written s always zero n h k at rest e = absurd (omega arith)
@@ -85,10 +89,12 @@ rule-written s o r w at rest e =
     let cs = writeCondition (r .allowed) in
     let ps = writeLabel (r .pc) in
     let rs = writeLabel (r .result) in
-    let e1 : drop at s ≡ cs ++ (ps ++ (rs ++ rest)) = e ∙ append-assoc cs (ps ++ rs) rest ∙ ap (λ (l : List ℕ). cs ++ l) (append-assoc ps rs rest) in
+    let e1 : drop at s ≡ cs ++ (ps ++ (rs ++ rest)) =
+    e ∙ append-assoc cs (ps ++ rs) rest ∙ ap (λ (l : List ℕ). cs ++ l) (append-assoc ps rs rest) in
     let e2 = drop-past s at cs (ps ++ (rs ++ rest)) e1 in
     let e3 = drop-past s (at + length cs) ps (rs ++ rest) e2 in
-    let end : at + length cs + length ps + length rs ≡ at + length (writeRule r) = omega (arith, length-append cs (ps ++ rs), length-append ps rs) in
+    let end : at + length cs + length ps + length rs ≡ at + length (writeRule r) =
+    omega (arith, length-append cs (ps ++ rs), length-append ps rs) in
     rw (
       condition-written s (r .allowed) depthLimit (supplies o) (w .depth) (w .supplied) at _ e1,
       label-written s (r .pc) depthLimit (supplies o) (w .pc .0) (w .pc .1) (at + length cs) _ e2,
@@ -103,7 +109,8 @@ rules-written s [] (r ∷ rs) w at rest e = absurd w
 rules-written s (o ∷ os) [] w at rest e = absurd w
 rules-written s (o ∷ os) (r ∷ rs) w at rest e =
     let e1 = e ∙ append-assoc (writeRule r) (writeTable rs) rest in
-    let end : at + length (writeRule r) + length (writeTable rs) ≡ at + length (writeTable (r ∷ rs)) = omega (arith, length-append (writeRule r) (writeTable rs)) in
+    let end : at + length (writeRule r) + length (writeTable rs) ≡ at + length (writeTable (r ∷ rs)) =
+    omega (arith, length-append (writeRule r) (writeTable rs)) in
     rw (
       rule-written s o r (w .0) at _ e1,
       rules-written s os rs (w .1) (at + length (writeRule r)) rest (drop-past s at (writeRule r) _ e1),

@@ -6,7 +6,8 @@ use lib.ListN.{getElem?}
 use Rattle.label.specs.Label as Label
 use Rattle.program.specs.Command.{Opcode, codeOf}
 use Rattle.machine.specs.Rule.{Key, labelOf, Verdict, denied, allowedIf, Policy}
-use Rattle.policy.specs.Expression.{LabelExpr, empty, place, input1, input2, input3, join, Condition, flows, always, both, either, Rule, Table}
+use Rattle.policy.specs.Expression.{LabelExpr, empty, place, input1, input2, input3, join, Condition, flows, always, both}
+use Rattle.policy.specs.Expression.{either, Rule, Table}
 
 -- a label expression at a key: P, and the labels of the inputs
 abbrev pub evalLabel : Key → LabelExpr → ℕ

@@ -10,7 +10,8 @@ use Rattle.program.specs.Decode.{refusal}
 use Rattle.program.specs.Command.{Opcode, opcodes, supplies, hasResult}
 use Rattle.policy.specs.declared.Token.{Token}
 use Rattle.policy.specs.declared.Token.the-variants.{Empty, Place, Input1, Input2, Input3, Join, Flows, True, And, Or, Nothing}
-use Rattle.policy.specs.Expression.{LabelExpr, empty, place, input1, input2, input3, join, Condition, flows, always, both, either, Rule, Table}
+use Rattle.policy.specs.Expression.{LabelExpr, empty, place, input1, input2, input3, join, Condition, flows, always, both}
+use Rattle.policy.specs.Expression.{either, Rule, Table}
 use Rattle.policy.specs.Token.{tokenAt}
 
 -- what reading at an offset gives: the offset of the first byte that is unknown, misplaced in kind, too deep, unsupplied or missing,

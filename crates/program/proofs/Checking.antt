@@ -55,7 +55,8 @@ module _ (s : List ℕ) (at count : ℕ) (i : Invariant s at count) where
   pub invariant-end : length s ≤ at → Checked.Accepted count ≡ checkAnswer (decode s)
   invariant-end h =
       ap Checked.Accepted (sym (add-zero count))
-      ∙ ap (counted count) (sym (ap (decodeFrom (commandLimit - count) at) (drop-of-length-le s h) ∙ remaining-end (commandLimit - count) at))
+      ∙ ap (counted count) (sym (ap (decodeFrom (commandLimit - count) at) (drop-of-length-le s h)
+      ∙ remaining-end (commandLimit - count) at))
       ∙ i .answer
 
   pub invariant-limit : at < length s → count ≡ commandLimit → Checked.Refused (refusal 1 at) ≡ checkAnswer (decode s)
@@ -91,5 +92,6 @@ module _ (s : List ℕ) (at count : ℕ) (i : Invariant s at count) where
         record {
           few = let k = i .few in omega arith;
           within = n .within;
-          answer = sym (counted-prepend count _ (remaining s next (count + 1))) ∙ ap (counted count) (sym (decode-next s at h left n)) ∙ answer-suc;
+          answer = sym (counted-prepend count _ (remaining s next (count + 1))) ∙ ap (counted count) (sym (decode-next s at h left n))
+              ∙ answer-suc;
         }

@@ -16,7 +16,8 @@ use Rattle.word.specs.Wrap.{residue}
 use Rattle.word.proofs.Bool.{and-left, and-right}
 use Rattle.program.specs.declared.Command.{Command}
 use Rattle.program.specs.declared.Command.the-variants.{Add, Sub, Pop, Output, Push, Load, Store, Jump, Bnz, Call, Ret}
-use Rattle.program.specs.Command.{Opcode, add, sub, pop, output, push, load, store, jump, bnz, call, ret, opcodes, opcodeOf, codeOf, operandWidth, opcode, operand, command}
+use Rattle.program.specs.Command.{Opcode, add, sub, pop, output, push, load, store, jump, bnz, call, ret, opcodes, opcodeOf}
+use Rattle.program.specs.Command.{codeOf, operandWidth, opcode, operand, command}
 
 -- an opcode is found under its code
 pub opcodeOf-codeOf : (o : Opcode) → opcodeOf (codeOf o) ≡ some o

@@ -1,4 +1,5 @@
--- Laws of decoding: at most so many commands, one command at a time as code reads it, and the way back from the bytes that encode a program.
+-- Laws of decoding: at most so many commands, one command at a time as code reads it, and the way back from the bytes that encode a
+-- program.
 -- Assumes nothing.
 use mathlib.Core.Path.{_≡_, refl}
 use mathlib.Core.Bool.{Bool, true, false}
@@ -18,7 +19,8 @@ use Rattle.word.specs.Digits.{valueOf}
 use Rattle.word.proofs.Laws.Test.{leb-shift}
 use Rattle.program.specs.declared.Command.{Command}
 use Rattle.program.specs.Command.{opcodeOf}
-use Rattle.program.specs.Decode.{First, unknown, cut, whole, firstOpcode, Decoded, refused, accepted, prepend, decodeFirst, decodeFrom}
+use Rattle.program.specs.Decode.{First, unknown, cut, whole, firstOpcode, Decoded, refused, accepted, prepend, decodeFirst}
+use Rattle.program.specs.Decode.{decodeFrom}
 
 -- the commands of an accepted program, none of a refused one
 abbrev pub commandsOf : Decoded → List Command

@@ -16,7 +16,8 @@ use Rattle.word.proofs.Laws.Wrap.{signed-range}
 use Rattle.word.proofs.Laws.Field as Field
 use Rattle.program.specs.declared.Command.{Command}
 use Rattle.program.specs.Command.{Opcode, opcodeOf, operandWidth, opcode, operand, command}
-use Rattle.program.specs.Decode.{First, unknown, cut, whole, firstOperand, firstOpcode, Decoded, refused, accepted, prepend, decodeFirst, decodeFrom, decode, commandLimit}
+use Rattle.program.specs.Decode.{First, unknown, cut, whole, firstOperand, firstOpcode, Decoded, refused, accepted, prepend}
+use Rattle.program.specs.Decode.{decodeFirst, decodeFrom, decode, commandLimit}
 use Rattle.program.specs.Encode.{FitsBytes, Writable, AllWritable, encode}
 use Rattle.program.proofs.Codes.{opcodeOf-codeOf, command-whole, opcode-command, operand-command}
 use Rattle.program.proofs.Decode.{commandsOf, signedAt-none, signedAt-empty, signedAt-whole}

@@ -14,7 +14,8 @@ use Rattle.program.specs.declared.Command.{Command}
 use Rattle.program.specs.declared.Refusal.{Refusal}
 use Rattle.program.specs.declared.Fetched.the-variants.{Is, Unknown, Cut}
 use Rattle.program.specs.Command.{opcodeOf}
-use Rattle.program.specs.Decode.{First, unknown, cut, whole, firstOpcode, Decoded, refused, accepted, refusal, prepend, decodeFirst, decodeFrom, decode, commandLimit}
+use Rattle.program.specs.Decode.{First, unknown, cut, whole, firstOpcode, Decoded, refused, accepted, refusal, prepend}
+use Rattle.program.specs.Decode.{decodeFirst, decodeFrom, decode, commandLimit}
 use Rattle.program.specs.Fetch.{fetchOf}
 use Rattle.program.specs.Space.{programWords, takeFirst, readable, writeSpace}
 use Rattle.program.proofs.Codes.{opcode-command}
@@ -104,7 +105,8 @@ module _ (s : List ℕ) (old space : List ℤ) (at i : ℕ) (w : Writing s old s
             now .operand-is,
             now .code,
             laidAt-cons i (pos (getD s at 0)) (z ∷ programWords rest) space (omega arith),
-            laidAt-cons (suc i) z (programWords rest) (set space i (pos (getD s at 0))) (let k = length-set space i (pos (getD s at 0)) in omega arith),
+            laidAt-cons (suc i) z (programWords rest) (set space i (pos (getD s at 0))) (let k = length-set space i (pos (getD s at 0)) in
+                omega arith),
             add-one i,
             add-two i,
           )

@@ -23,7 +23,8 @@ unsigned-number : (k : ℕ) (s : List ℕ) (at : ℕ) (z : ℤ) → unsignedAt k
 unfolding unsignedAt
 unsigned-number k s at z e = by (leb (at + k) (length s)) refl e
   where
-    by : (b : Bool) → leb (at + k) (length s) ≡ b → whole b (pos (bitsAt k s at)) ≡ Number z → (at + k ≤ length s) × (z ≡ pos (bitsAt k s at))
+    by : (b : Bool) → leb (at + k) (length s) ≡ b → whole b (pos (bitsAt k s at)) ≡ Number z
+        → (at + k ≤ length s) × (z ≡ pos (bitsAt k s at))
     by true t e = (leb-true (at + k) (length s) t, cc)
     by false t e = absurd (let x : _≡_ {A = ℕ} 0 1 = cc in omega arith)
 

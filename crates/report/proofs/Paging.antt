@@ -70,7 +70,8 @@ pub few : (s : List ℕ) → Few (readJob s .heard)
 unfolding readJob
 few s =
     let none : Few silence = record { values = omega arith; labels = refl } in
-    few-if (leb (length s) 65536) (readFrom (length s) s 0 silence) (reading silence (bad 65536)) (few-from (length s) s 0 silence none) none
+    few-if (leb (length s) 65536) (readFrom (length s) s 0 silence) (reading silence (bad 65536))
+    (few-from (length s) s 0 silence none) none
 
 -- ════════════════════════════════════════════════════════════════════════════════════════════
 -- The run's end
@@ -92,7 +93,8 @@ module _ (c : Cells) (allowance reader : ℕ) (bytes : List ℕ) (l : Left) (d :
 -- ════════════════════════════════════════════════════════════════════════════════════════════
 
 module _ (job old : List ℕ) (n : ℕ) (new : List ℕ) where
-  pub page-bad : (offset : ℕ) → Job.Bad offset ≡ jobAnswer (readJob job) → Written (jobText offset) old 0 n new → Written (pageOf job) old 0 n new
+  pub page-bad : (offset : ℕ) → Job.Bad offset ≡ jobAnswer (readJob job) → Written (jobText offset) old 0 n new
+      → Written (pageOf job) old 0 n new
   unfolding pageOf
   page-bad offset e w = by (readJob job .ending) e
     where
@@ -107,7 +109,8 @@ module _ (job old : List ℕ) (n : ℕ) (new : List ℕ) where
     heard (bad k) e = never (cc)
     heard (sheet k) e =
         let h = readJob job .heard in
-        let same : said ≡ record { cells = length (h .values); allowance = h .allowance; reader = record { 0 = h .reader }; sheet = k } = cc in
+        let same : said ≡ record { cells = length (h .values); allowance = h .allowance; reader = record { 0 = h .reader }; sheet = k } =
+        cc in
         let d = ap (λ (x : Said). x .cells) same in
         (d, omega (arith, few job .values))
 
@@ -125,7 +128,10 @@ module _ (job old : List ℕ) (n : ℕ) (new : List ℕ) where
         (l : labels ≡ fitted (readJob job .heard .labels) (zeros 1024)) where
       values-are : take (said .cells) values ≡ readJob job .heard .values
       values-are =
-          rw (cells-are, v) (fitted-take (readJob job .heard .values) (zeros 1024) (omega (arith, few job .values, length-replicate 1024 (pos 0))))
+          rw (
+            cells-are,
+            v,
+          ) (fitted-take (readJob job .heard .values) (zeros 1024) (omega (arith, few job .values, length-replicate 1024 (pos 0))))
 
       labels-are : take (said .cells) labels ≡ readJob job .heard .labels
       labels-are =
@@ -133,7 +139,8 @@ module _ (job old : List ℕ) (n : ℕ) (new : List ℕ) where
           (fitted-take (readJob job .heard .labels) (zeros 1024)
           (omega (arith, few job .values, few job .labels, length-replicate 1024 (pos 0))))
 
-      pub page-read : Written (saidText said (take (said .cells) values) (take (said .cells) labels)) old 0 n new → Written (pageOf job) old 0 n new
+      pub page-read : Written (saidText said (take (said .cells) values) (take (said .cells) labels)) old 0 n new
+          → Written (pageOf job) old 0 n new
       unfolding pageOf
       page-read w = by (readJob job .ending) e (rw (values-are, labels-are) at w)
         where
@@ -143,7 +150,13 @@ module _ (job old : List ℕ) (n : ℕ) (new : List ℕ) where
           by (bad k) e w = never (cc)
           by (sheet k) e w =
               let h = readJob job .heard in
-              let same : said ≡ record { cells = length (h .values); allowance = h .allowance; reader = record { 0 = h .reader }; sheet = k } = cc in
+              let same : said ≡ record {
+                cells = length (h .values);
+                allowance = h .allowance;
+                reader = record { 0 = h .reader };
+                sheet =
+                    k;
+              } = cc in
               subst (λ (x : Said). Written (saidText x (h .values) (h .labels)) old 0 n new) same w
 
 -- ════════════════════════════════════════════════════════════════════════════════════════════

@@ -65,7 +65,8 @@ pub written-shown : (reader : ℕ) (x : Line) (old : List ℕ) (at next : ℕ) (
     → Written (lineText x) old at next new → Written (shownText reader x) old at next new
 written-shown reader x old at next new f w = rw f w
 
-pub written-hidden : (reader : ℕ) (x : Line) (old : List ℕ) (at : ℕ) → flows (x .label) reader ≡ false → Written (shownText reader x) old at at old
+pub written-hidden : (reader : ℕ) (x : Line) (old : List ℕ) (at : ℕ) → flows (x .label) reader ≡ false
+    → Written (shownText reader x) old at at old
 written-hidden reader x old at f = rw f (record { end = sym (add-zero at); space = sym (laidAt-nil at old) })
 
 -- ════════════════════════════════════════════════════════════════════════════════════════════
@@ -81,7 +82,14 @@ pub record Printing (reader : ℕ) (xs : List Line) (out₀ out : List ℕ) (at 
 
 module _ (reader : ℕ) (xs : List Line) (out₀ : List ℕ) where
   pub printing-start : Printing reader xs out₀ out₀ 0 0
-  printing-start = record { few = omega arith; short = omega arith; same = refl; left = refl; rest = zero-add (length (linesText reader xs)) }
+  printing-start = record {
+    few = omega arith;
+    short = omega arith;
+    same = refl;
+    left = refl;
+    rest =
+        zero-add (length (linesText reader xs));
+  }
 
   module _ (out : List ℕ) (at i : ℕ) (p : Printing reader xs out₀ out at i) where
     pub printing-end : length xs ≤ i → Written (linesText reader xs) out₀ 0 at out
@@ -95,7 +103,8 @@ module _ (reader : ℕ) (xs : List Line) (out₀ : List ℕ) where
           space = sym (ap (λ (t : List ℕ). laidAt at t out) e ∙ laidAt-nil at out) ∙ p .left;
         }
 
-    pub printing-next : (x : Line) → drop i xs ≡ x ∷ drop (i + 1) xs → i < length xs → mag (x .number) < 2 ^ 63 → 30 * length xs ≤ length out₀
+    pub printing-next : (x : Line) → drop i xs ≡ x ∷ drop (i + 1) xs → i < length xs → mag (x .number) < 2 ^ 63
+        → 30 * length xs ≤ length out₀
         → (next : ℕ) (new : List ℕ) → Written (shownText reader x) out at next new → Printing reader xs out₀ new next (i + 1)
     unfolding linesText
     printing-next x d h k room next new w =

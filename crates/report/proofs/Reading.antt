@@ -54,7 +54,8 @@ Answered s values₀ labels₀ r values labels =
     × ((values ≡ fitted (readJob s .heard .values) values₀) × (labels ≡ fitted (readJob s .heard .labels) labels₀))
 
 -- the length is tested first
-pub answered-long : (s : List ℕ) (values₀ labels₀ : List ℤ) → 65536 < length s → Answered s values₀ labels₀ (answerOf silence (bad 65536)) values₀ labels₀
+pub answered-long : (s : List ℕ) (values₀ labels₀ : List ℤ) → 65536 < length s
+    → Answered s values₀ labels₀ (answerOf silence (bad 65536)) values₀ labels₀
 unfolding readJob
 answered-long s values₀ labels₀ h = rw (lt-leb (length s) 65536 h) (refl, (fitted-none values₀, fitted-none labels₀))
 
@@ -70,7 +71,8 @@ pub record Going (s : List ℕ) (values₀ labels₀ values labels : List ℤ) (
   pub pairs : length labels-heard ≡ cells
   pub stored : values ≡ fitted values-heard values₀
   pub marked : labels ≡ fitted labels-heard labels₀
-  pub left : readFrom commands s at (record { values = values-heard; labels = labels-heard; allowance = allowance; reader = reader }) ≡ readJob s
+  pub left : readFrom commands s at (record { values = values-heard; labels = labels-heard; allowance = allowance; reader = reader })
+      ≡ readJob s
 
 pub going-start : (s : List ℕ) (values₀ labels₀ : List ℤ) → length s ≤ 65536 → Going s values₀ labels₀ values₀ labels₀ 0 0 1000000 0
 unfolding readJob
@@ -139,7 +141,8 @@ module _ (s : List ℕ) (values₀ labels₀ values labels : List ℤ) (at cells
         (Job.Read (record { cells = cells; allowance = allowance; reader = record { 0 = reader }; sheet = at + 1 })) values labels
     going-sheet e = rw (g .count) at (ends (sheet (at + 1)) (turn Sheet e))
 
-    pub going-limit : (z : ℤ) (l : ℕ) → itemAt s at ≡ Cell z l → cells ≡ 1024 → Answered s values₀ labels₀ (answerOf heard (bad at)) values labels
+    pub going-limit : (z : ℤ) (l : ℕ) → itemAt s at ≡ Cell z l → cells ≡ 1024
+        → Answered s values₀ labels₀ (answerOf heard (bad at)) values labels
     going-limit z l e f = ends (bad at) (rw (g .count, f) at (turn (Cell z l) e))
 
     pub going-cell : (z : ℤ) (l : ℕ) → itemAt s at ≡ Cell z l → (cells ≡ 1024 → ⊥)

@@ -134,8 +134,10 @@ written-refused number place o₀ o₁ o₂ o₃ o₄ o₅ a b c d e h v w x y z
     let two = written-append (refusedWord ++ space) (natural number) o₀ o₁ o₂ 0 a b (omega arith) v w in
     let three = written-append (refusedWord ++ space ++ natural number) space o₀ o₂ o₃ 0 b c (simp length-append (omega arith)) two x in
     let four =
-    written-append (refusedWord ++ space ++ natural number ++ space) (natural place) o₀ o₃ o₄ 0 c d (simp length-append (omega arith)) three y in
-    written-append (refusedWord ++ space ++ natural number ++ space ++ natural place) newline o₀ o₄ o₅ 0 d e (simp length-append (omega arith)) four z
+    written-append (refusedWord ++ space ++ natural number ++ space) (natural place) o₀ o₃ o₄ 0 c d
+    (simp length-append (omega arith)) three y in
+    written-append (refusedWord ++ space ++ natural number ++ space ++ natural place) newline o₀ o₄ o₅ 0 d e
+    (simp length-append (omega arith)) four z
 
 pub written-line : (x : Line) (o₀ o₁ o₂ o₃ o₄ : List ℕ) (at a b c d : ℕ) → mag (x .number) < 2 ^ 63 → at + 30 ≤ length o₀
     → Written (decimal (x .number)) o₀ at a o₁ → Written space o₁ a b o₂ → Written (hexadecimal (x .label)) o₂ b c o₃
@@ -147,4 +149,5 @@ written-line l o₀ o₁ o₂ o₃ o₄ at a b c d f h w x y z =
     let two = written-append (decimal (l .number)) space o₀ o₁ o₂ at a b (omega arith) w x in
     let three =
     written-append (decimal (l .number) ++ space) (hexadecimal (l .label)) o₀ o₂ o₃ at b c (simp length-append (omega arith)) two y in
-    written-append (decimal (l .number) ++ space ++ hexadecimal (l .label)) newline o₀ o₃ o₄ at c d (simp length-append (omega arith)) three z
+    written-append (decimal (l .number) ++ space ++ hexadecimal (l .label)) newline o₀ o₃ o₄ at c d
+    (simp length-append (omega arith)) three z

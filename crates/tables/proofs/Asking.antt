@@ -19,7 +19,8 @@ use Rattle.tables.specs.declared.RuleRead.{RuleRead}
 use Rattle.tables.specs.declared.RuleRead.the-variants as RuleRead
 use Rattle.policy.specs.Expression.{Rule, Table}
 use Rattle.policy.specs.Evaluate.{evalRule, evaluate}
-use Rattle.policy.specs.Read.{Read, fault, found, prepend, ruleCount, readRules, ReadTable, refused, table, whole, wholeIf, tableIf, tableLimit, readTable}
+use Rattle.policy.specs.Read.{Read, fault, found, prepend, ruleCount, readRules, ReadTable, refused, table, whole, wholeIf, tableIf}
+use Rattle.policy.specs.Read.{tableLimit, readTable}
 use Rattle.tables.specs.Value.{keyOf}
 use Rattle.tables.specs.Ask.{verdictOf, codeRead, checkAnswer, Readable, ask}
 use Rattle.policy.proofs.Tokens.{getElem-drop}
@@ -43,7 +44,8 @@ passing-start s code h l m = limit (leb (length s) tableLimit) refl h
     over true t end e d h = absurd h
     over false t end e d h = refl
 
-    read : (x : Read Table) → readRules opcodes s 0 ≡ x → Readable (whole (length s) x) → readTable s ≡ whole (length s) x → Passing s code 0 0
+    read : (x : Read Table) → readRules opcodes s 0 ≡ x → Readable (whole (length s) x) → readTable s ≡ whole (length s) x
+        → Passing s code 0 0
     read (fault p) e h d = absurd h
     read (found t end) e h d =
         record {
@@ -102,7 +104,8 @@ module _ (ls : Labels) (s : List ℕ) (code i at : ℕ) (p : Passing s code i at
           few = p .few;
         }
 
-    own : (o : Opcode) → opcodeOf (i + 1) ≡ some o → evaluate (p .rules) (keyOf o (supplies o) ls) ≡ evalRule (some (n .rule)) (keyOf o (supplies o) ls)
+    own : (o : Opcode) → opcodeOf (i + 1) ≡ some o
+        → evaluate (p .rules) (keyOf o (supplies o) ls) ≡ evalRule (some (n .rule)) (keyOf o (supplies o) ls)
     unfolding evaluate
     own o f =
         let d : codeOf o - 1 ≡ i = omega (arith, codeOf-opcodeOf (i + 1) o f) in
@@ -119,7 +122,8 @@ module _ (ls : Labels) (s : List ℕ) (code i at : ℕ) (p : Passing s code i at
   pub own-whole : (q : ℕ) → codeRead (opcodeOf code) ls s at ≡ RuleRead.Fault q → ⊥
   own-whole q e = passing-whole ls s code i at p q (subst (λ n. codeRead (opcodeOf n) ls s at ≡ RuleRead.Fault q) own-code e)
 
-  pub own-said : (v : Verdict) (next : ℕ) → codeRead (opcodeOf code) ls s at ≡ RuleRead.Is v next → v ≡ verdictOf (ask (readTable s) (opcodeOf code) ls)
+  pub own-said : (v : Verdict) (next : ℕ) → codeRead (opcodeOf code) ls s at ≡ RuleRead.Is v next
+      → v ≡ verdictOf (ask (readTable s) (opcodeOf code) ls)
   own-said v next e =
       let d = passing-said ls s code i at p v next (subst (λ n. codeRead (opcodeOf n) ls s at ≡ RuleRead.Is v next) own-code e) in
       d ∙ ap (λ n. verdictOf (ask (readTable s) (opcodeOf n) ls)) (sym own-code)

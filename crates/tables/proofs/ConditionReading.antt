@@ -44,10 +44,13 @@ module _ (k : Key) (at : ℕ) (label : ℕ → Read LabelExpr) (inner : ℕ → 
   condition-token Token.Input2 = refl
   condition-token Token.Input3 = refl
   condition-token Token.Join = refl
-  condition-token Token.Flows = combine-two (conditionRead k) (twoLabels k) Expression.flows flowsOf (λ p. refl) (λ a b end. refl) label (at + 1)
+  condition-token Token.Flows =
+      combine-two (conditionRead k) (twoLabels k) Expression.flows flowsOf (λ p. refl) (λ a b end. refl) label (at + 1)
   condition-token Token.True = refl
-  condition-token Token.And = combine-two (conditionRead k) (twoConditions k) Expression.both bothOf (λ p. refl) (λ a b end. refl) inner (at + 1)
-  condition-token Token.Or = combine-two (conditionRead k) (twoConditions k) Expression.either eitherOf (λ p. refl) (λ a b end. refl) inner (at + 1)
+  condition-token Token.And =
+      combine-two (conditionRead k) (twoConditions k) Expression.both bothOf (λ p. refl) (λ a b end. refl) inner (at + 1)
+  condition-token Token.Or =
+      combine-two (conditionRead k) (twoConditions k) Expression.either eitherOf (λ p. refl) (λ a b end. refl) inner (at + 1)
   condition-token Token.Nothing = refl
 
 module _ (k : Key) (d n : ℕ) (s : List ℕ) (at : ℕ) where
@@ -69,13 +72,15 @@ module _ (k : Key) (d n : ℕ) (s : List ℕ) (at : ℕ) where
   byFirst t = byTest k at (readLabel (d - 1) n s) (readCondition (d - 1) n s) t
 
   pub condition-first : (d ≡ 0 → ⊥) → at < length s → (t : Test) → testOf (tokenOf (getD s at 0)) ≡ t
-      → testRead t at (twoLabels k (readTwo (readLabel (d - 1) n s) pair (at + 1))) (twoConditions k (readTwo (readCondition (d - 1) n s) pair (at + 1)))
+      → testRead t at (twoLabels k (readTwo (readLabel (d - 1) n s) pair (at + 1)))
+      (twoConditions k (readTwo (readCondition (d - 1) n s) pair (at + 1)))
       ≡ conditionRead k (readCondition d n s at)
   unfolding readCondition
   condition-first f h t e = ap byFirst (sym e) ∙ first d f
     where
       first : (d : ℕ) → (d ≡ 0 → ⊥)
-          → byTest k at (readLabel (d - 1) n s) (readCondition (d - 1) n s) (testOf (tokenOf (getD s at 0))) ≡ conditionRead k (readCondition d n s at)
+          → byTest k at (readLabel (d - 1) n s) (readCondition (d - 1) n s) (testOf (tokenOf (getD s at 0)))
+          ≡ conditionRead k (readCondition d n s at)
       first zero f = absurd (f refl)
       first (suc d) f =
           let e : suc d - 1 ≡ d = omega arith in
@@ -107,7 +112,8 @@ module _ (k : Key) (read : ℕ → Read Condition) (at : ℕ) where
           second (fault p) = refl
           second (found b end) = refl
 
-  pub two-conditions-first : (p : ℕ) → conditionRead k (read at) ≡ ConditionRead.Fault p → TwoConditions.Fault p ≡ twoConditions k (readTwo read pair at)
+  pub two-conditions-first : (p : ℕ) → conditionRead k (read at) ≡ ConditionRead.Fault p
+      → TwoConditions.Fault p ≡ twoConditions k (readTwo read pair at)
   two-conditions-first p e = ap (λ r. twoBy r value) (sym e) ∙ two-by
 
   pub two-conditions-second : (a : Bool) (next p : ℕ) → conditionRead k (read at) ≡ ConditionRead.Is a next

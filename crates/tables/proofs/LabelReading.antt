@@ -46,7 +46,8 @@ combine-two value two make combine h g read at = first (read at)
     first (fault p) = h p
     first (found a next) = second (read next)
       where
-        second : (r : Read _) → value (andThen r (λ b end. found (make a b) end)) ≡ combine (two (andThen r (λ b end. found (pair a b) end)))
+        second : (r : Read _) → value (andThen r (λ b end. found (make a b) end))
+            ≡ combine (two (andThen r (λ b end. found (pair a b) end)))
         second (fault p) = h p
         second (found b end) = g a b end
 
@@ -54,15 +55,18 @@ module _ (o : Opcode) (n : ℕ) (ls : Labels) (at : ℕ) (inner : ℕ → Read L
   abbrev twoInner : TwoLabels
   twoInner = twoLabels (keyOf o n ls) (readTwo inner pair (at + 1))
 
-  input1-token : (b : Bool) → leb 1 n ≡ b → labelRead (keyOf o n ls) (labelFrom Token.Input1 n at inner) ≡ leafRead (leafOf Token.Input1 n ls) at twoInner
+  input1-token : (b : Bool) → leb 1 n ≡ b → labelRead (keyOf o n ls) (labelFrom Token.Input1 n at inner)
+      ≡ leafRead (leafOf Token.Input1 n ls) at twoInner
   input1-token true e = rw e
   input1-token false e = rw e
 
-  input2-token : (b : Bool) → leb 2 n ≡ b → labelRead (keyOf o n ls) (labelFrom Token.Input2 n at inner) ≡ leafRead (leafOf Token.Input2 n ls) at twoInner
+  input2-token : (b : Bool) → leb 2 n ≡ b → labelRead (keyOf o n ls) (labelFrom Token.Input2 n at inner)
+      ≡ leafRead (leafOf Token.Input2 n ls) at twoInner
   input2-token true e = rw e
   input2-token false e = rw e
 
-  input3-token : (b : Bool) → leb 3 n ≡ b → labelRead (keyOf o n ls) (labelFrom Token.Input3 n at inner) ≡ leafRead (leafOf Token.Input3 n ls) at twoInner
+  input3-token : (b : Bool) → leb 3 n ≡ b → labelRead (keyOf o n ls) (labelFrom Token.Input3 n at inner)
+      ≡ leafRead (leafOf Token.Input3 n ls) at twoInner
   input3-token true e = rw e
   input3-token false e = rw e
 
@@ -96,7 +100,8 @@ module _ (o : Opcode) (d n : ℕ) (s : List ℕ) (ls : Labels) (at : ℕ) where
 
   -- otherwise by its first byte
   pub label-first : (d ≡ 0 → ⊥) → at < length s → (leaf : Leaf) → leafOf (tokenOf (getD s at 0)) n ls ≡ leaf
-      → leafRead leaf at (twoLabels (keyOf o n ls) (readTwo (readLabel (d - 1) n s) pair (at + 1))) ≡ labelRead (keyOf o n ls) (readLabel d n s at)
+      → leafRead leaf at (twoLabels (keyOf o n ls) (readTwo (readLabel (d - 1) n s) pair (at + 1)))
+      ≡ labelRead (keyOf o n ls) (readLabel d n s at)
   unfolding readLabel
   label-first f h leaf e = ap byLeaf (sym e) ∙ first d f
     where
@@ -140,10 +145,12 @@ module _ (k : Key) (read : ℕ → Read LabelExpr) (at : ℕ) where
   pub two-labels-first : (p : ℕ) → labelRead k (read at) ≡ LabelRead.Fault p → TwoLabels.Fault p ≡ twoLabels k (readTwo read pair at)
   two-labels-first p e = ap (λ r. twoBy r value) (sym e) ∙ two-by
 
-  pub two-labels-second : (l : Label) (next p : ℕ) → labelRead k (read at) ≡ LabelRead.Is l next → labelRead k (read next) ≡ LabelRead.Fault p
+  pub two-labels-second : (l : Label) (next p : ℕ) → labelRead k (read at) ≡ LabelRead.Is l next
+      → labelRead k (read next) ≡ LabelRead.Fault p
       → TwoLabels.Fault p ≡ twoLabels k (readTwo read pair at)
   two-labels-second l next p e e2 = ap (twoNext l) (sym e2) ∙ ap (λ r. twoBy r value) (sym e) ∙ two-by
 
-  pub two-labels-both : (l m : Label) (next end : ℕ) → labelRead k (read at) ≡ LabelRead.Is l next → labelRead k (read next) ≡ LabelRead.Is m end
+  pub two-labels-both : (l m : Label) (next end : ℕ) → labelRead k (read at) ≡ LabelRead.Is l next
+      → labelRead k (read next) ≡ LabelRead.Is m end
       → TwoLabels.Are l m end ≡ twoLabels k (readTwo read pair at)
   two-labels-both l m next end e e2 = ap (twoNext l) (sym e2) ∙ ap (λ r. twoBy r value) (sym e) ∙ two-by

@@ -30,7 +30,8 @@ use Rattle.policy.specs.Evaluate.{evaluate}
 use Rattle.policy.specs.Read.{ruleCount, ReadTable, refused, table}
 use Rattle.tables.specs.Value.{inputIf, keyOf}
 use Rattle.tables.specs.Ask.{verdictOf, checkAnswer, ask}
-use Rattle.policy.specs.Row.{isMark, emptyRow, inputOf, presentOf, missingIf, labelOption, given, word, rowKey, agrees, acceptedRow, rowAnswer}
+use Rattle.policy.specs.Row.{isMark, emptyRow, inputOf, presentOf, missingIf, labelOption, given, word, rowKey, agrees, acceptedRow}
+use Rattle.policy.specs.Row.{rowAnswer}
 use Rattle.tables.specs.RowCode.{markIf, inputStored, labelsFrom, rowLabels, verdictAgrees, rowIn, inspected}
 
 -- ════════════════════════════════════════════════════════════════════════════════════════════
@@ -75,7 +76,8 @@ row-key : (o : Opcode) (ws : List ℤ) → rowKey o ws ≡ keyOption o (supplies
 row-key o ws =
     let n = supplies o in
     rw (input-stored (leb 1 n) (word ws 2), input-stored (leb 2 n) (word ws 3), input-stored (leb 3 n) (word ws 4))
-    (key-labels o n (stored (word ws 1)) (inputStored (leb 1 n) (word ws 2)) (inputStored (leb 2 n) (word ws 3)) (inputStored (leb 3 n) (word ws 4)))
+    (key-labels o n (stored (word ws 1)) (inputStored (leb 1 n) (word ws 2)) (inputStored (leb 2 n) (word ws 3))
+    (inputStored (leb 3 n) (word ws 4)))
 
 -- ════════════════════════════════════════════════════════════════════════════════════════════
 -- A row whose command is known
@@ -86,7 +88,8 @@ verdict-agrees Rules.denied p r = refl
 verdict-agrees (Rules.allowed q t) p r = refl
 
 -- a command that has a shape has a rule
-pub shape-rule : (n : ℕ) (x : Option Opcode) (w k : ℕ) (has : Bool) → opcodeOf n ≡ x → shapeOf x ≡ Shape.Of w k has → (1 ≤ n) × (n ≤ ruleCount)
+pub shape-rule : (n : ℕ) (x : Option Opcode) (w k : ℕ) (has : Bool) → opcodeOf n ≡ x → shapeOf x ≡ Shape.Of w k has
+    → (1 ≤ n) × (n ≤ ruleCount)
 shape-rule n none w k has d e = never (cc)
 shape-rule n (some o) w k has d e =
     let c = codeOf-opcodeOf n o d in (omega (arith, code-least o, c), omega (arith, code-most o, c))
@@ -139,7 +142,8 @@ module _ (ws : List ℤ) where
   row-negative (refused r) e f = sym e
   row-negative (table t) e f = rw (e, f)
 
-  pub row-code : (t : ReadTable) (n : ℕ) → emptyRow ws ≡ false → naturalOf (word ws 0) ≡ Natural.Of n → rowIn t (opcodeOf n) ws ≡ rowAnswer t ws
+  pub row-code : (t : ReadTable) (n : ℕ) → emptyRow ws ≡ false → naturalOf (word ws 0) ≡ Natural.Of n
+      → rowIn t (opcodeOf n) ws ≡ rowAnswer t ws
   unfolding acceptedRow
   row-code (refused r) n e f = sym e
   row-code (table t) n e f = rw (e, f)

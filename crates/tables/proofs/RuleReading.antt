@@ -55,7 +55,8 @@ module _ (k : Key) (n : ℕ) (has : Bool) (s : List ℕ) (at : ℕ) where
 
       second : (c : Condition) (r : Read LabelExpr)
           → byPlace (evalCondition k c) (labelRead k r) result
-          ≡ ruleRead k (andThen r (λ p at3. andThen (resultIf has n s at3) (λ l end. found (record { allowed = c; pc = p; result = l }) end)))
+          ≡ ruleRead k (andThen r
+          (λ p at3. andThen (resultIf has n s at3) (λ l end. found (record { allowed = c; pc = p; result = l }) end)))
       second c (fault q) = refl
       second c (found p next) = third c p (resultIf has n s next)
 
@@ -76,7 +77,8 @@ module _ (k : Key) (n : ℕ) (has : Bool) (s : List ℕ) (at : ℕ) where
     place-by : byPlace c (place at2) result ≡ ruleRead k (readRuleWith n has s at)
     place-by = ap (λ x. byCondition x place result) (sym e) ∙ rule-by
 
-    pub rule-place : (q : ℕ) → labelRead k (readLabel depthLimit n s at2) ≡ LabelRead.Fault q → RuleRead.Fault q ≡ ruleRead k (readRuleWith n has s at)
+    pub rule-place : (q : ℕ) → labelRead k (readLabel depthLimit n s at2) ≡ LabelRead.Fault q
+        → RuleRead.Fault q ≡ ruleRead k (readRuleWith n has s at)
     rule-place q e2 = ap (λ x. byPlace c x result) (sym e2) ∙ place-by
 
     -- after the place

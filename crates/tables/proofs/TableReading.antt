@@ -100,7 +100,8 @@ checking-start s h = record { few = omega arith; answer = rw (le-leb (length s) 
 
 module _ (s : List ℕ) (i at : ℕ) (c : Checking s i at) where
   module _ (ls : Labels) (h : i < ruleCount) where
-    pub checking-fault : (p : ℕ) → codeRead (opcodeOf (i + 1)) ls s at ≡ RuleRead.Fault p → Checked.Refused (refusal 6 p) ≡ checkAnswer (readTable s)
+    pub checking-fault : (p : ℕ) → codeRead (opcodeOf (i + 1)) ls s at ≡ RuleRead.Fault p
+        → Checked.Refused (refusal 6 p) ≡ checkAnswer (readTable s)
     checking-fault p e =
         let d : readRules (drop i opcodes) s at ≡ fault p = subst (Reads ls s i at) e (reads ls s i at h) in
         ap (λ x. checkAnswer (whole (length s) x)) (sym d) ∙ c .answer

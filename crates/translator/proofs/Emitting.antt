@@ -40,7 +40,8 @@ emits-read p address next start before after e d = emits-run p (Push (pos addres
 
 module _ {a : Piece} {start : ℕ} {s0 : List ℤ} {r1 : Mark} {s1 : List ℤ} (e1 : Emits a start s0 r1 s1) where
   -- and a piece behind it
-  emits-then : (b : Piece) {r2 : Mark} {s2 : List ℤ} → Emits b (r1 .position) s1 r2 s2 → Emits (piece (a .code ++ b .code) (b .next)) start s0 r2 s2
+  emits-then : (b : Piece) {r2 : Mark} {s2 : List ℤ} → Emits b (r1 .position) s1 r2 s2
+      → Emits (piece (a .code ++ b .code) (b .next)) start s0 r2 s2
   emits-then b {r2} {s2} e2 =
       record {
         next = e2 .next;
@@ -128,7 +129,8 @@ emits-guarded c answer start s0 r1 s1 e1 r2 s2 e2 s3 e3 s4 e4 =
     let a = answer (c .next) in
     let f : Emits a (r1 .position + 1) s1 r2 s2 = subst (λ k. Emits (answer k) (r1 .position + 1) s1 r2 s2) (e1 .next) e2 in
     let d : r2 .position - r1 .position ≡ suc (length (a .code)) = omega (arith, f .position) in
-    rw (f .next) (emits-put (emits-late e1 (Bnz (pos (suc (length (a .code)))) ∷ []) a f (rw d at e3)) (Push (negsuc 0) ∷ Jump ∷ []) (a .next) e4)
+    rw (f .next) (emits-put (emits-late e1 (Bnz (pos (suc (length (a .code)))) ∷ []) a f (rw d at e3)) (Push (negsuc 0) ∷ Jump ∷ [])
+    (a .next) e4)
 
 -- ════════════════════════════════════════════════════════════════════════════════════════════
 -- How far they reach

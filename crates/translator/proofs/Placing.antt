@@ -64,7 +64,8 @@ placed-apart (suc count) slot before s m space h =
     let d : p - (6 + slot) ≡ suc (length bs + before) = omega (arith, n) in
     let g : 6 + (slot + 1) ≡ 6 + slot + 1 = omega arith in
     placed-apart count (slot + 1) (before + b) s (record { next = r .next; position = p + b }) (putCode p (r .code) own) (omega arith)
-    ∙ ap (putCode (p + b) (concat bs)) (sym (putCode-comm (6 + (slot + 1)) rest p (r .code) own (omega (arith, n, slots-length bs (before + b)))))
+    ∙ ap (putCode (p + b) (concat bs))
+    (sym (putCode-comm (6 + (slot + 1)) rest p (r .code) own (omega (arith, n, slots-length bs (before + b)))))
     ∙ sym (putCode-append p (r .code) (concat bs) (putCode (6 + (slot + 1)) rest own))
     ∙ ap (putCode p (r .code ++ concat bs))
     (ap (λ k. putCode k rest own) g

@@ -57,7 +57,8 @@ then-is cA cB cC make put law (found a next) p readB codeB e h = second (readB n
         ∙ ap (λ code. piece code end) (sym (law a b))
 
 -- a byte by itself
-lone-is : {A : Type 0} (compile : A → List Instruction) (b : Bool) (a : A) (at : ℕ) → Is compile (readIf b a at) (piece (compile a) (at + 1))
+lone-is : {A : Type 0} (compile : A → List Instruction) (b : Bool) (a : A) (at : ℕ)
+    → Is compile (readIf b a at) (piece (compile a) (at + 1))
 lone-is compile true a at = refl
 lone-is compile false a at = tt
 
@@ -96,7 +97,8 @@ module _ (n : ℕ) (s : List ℕ) where
   condition-from Token.Input3 at label inner codeL code g h = tt
   condition-from Token.Join at label inner codeL code g h = tt
   condition-from Token.Flows at label inner codeL code g h =
-      then-is compileLabel compileLabel compileCondition flows flowsCode (λ a b. refl) (label (at + 1)) (codeL (at + 1)) label codeL (g (at + 1)) g
+      then-is compileLabel compileLabel compileCondition flows flowsCode (λ a b. refl) (label (at + 1)) (codeL (at + 1)) label codeL
+      (g (at + 1)) g
   condition-from Token.True at label inner codeL code g h = refl
   condition-from Token.And at label inner codeL code g h =
       then-is compileCondition compileCondition compileCondition both joinCode (λ a b. refl)
@@ -110,7 +112,8 @@ module _ (n : ℕ) (s : List ℕ) where
   unfolding readCondition conditionCode
   condition-is zero at = tt
   condition-is (suc d) at =
-      condition-from (tokenAt s at) at (readLabel d n s) (readCondition d n s) (labelCode d s) (conditionCode d s) (label-is d) (condition-is d)
+      condition-from (tokenAt s at) at (readLabel d n s) (readCondition d n s) (labelCode d s) (conditionCode d s) (label-is d)
+      (condition-is d)
 
   -- the byte 10 is a label expression too
   empty-is : (o : Option ℕ) (at : ℕ) → getElem? s at ≡ o → Is compileLabel (emptyByte o at) (labelCode depthLimit s at)
@@ -142,7 +145,8 @@ module _ (n : ℕ) (s : List ℕ) where
     unfolding answerCode compileRule
     always-is at =
         then-is compileLabel compileLabel compileRule (ruleOf always) answerOf (λ p r. refl)
-        (readLabel depthLimit n s at) (labelCode depthLimit s at) (resultIf has n s) (labelCode depthLimit s) (label-is depthLimit at) (result-is has)
+        (readLabel depthLimit n s at) (labelCode depthLimit s at) (resultIf has n s) (labelCode depthLimit s) (label-is depthLimit at)
+        (result-is has)
 
     -- a condition that is tested
     abbrev Tests : Condition → Type 0
@@ -215,8 +219,10 @@ module _ (s : List ℕ) where
   rules-are [] at = refl
   rules-are (o ∷ os) at = rule (readRule o s at) (rule-is (supplies o) s (hasResult o) at) (rules-are os)
     where
-      rule : (r : Read Rule) → Is compileRule r (ruleCode s at) → ((next : ℕ) → AreRules (readRules os s next) (bodiesAt (length os) s next))
-          → AreRules (andThen r (λ r next. prepend r (readRules os s next))) (ruleCode s at .code ∷ bodiesAt (length os) s (ruleCode s at .next))
+      rule : (r : Read Rule) → Is compileRule r (ruleCode s at)
+          → ((next : ℕ) → AreRules (readRules os s next) (bodiesAt (length os) s next))
+          → AreRules (andThen r (λ r next. prepend r (readRules os s next)))
+          (ruleCode s at .code ∷ bodiesAt (length os) s (ruleCode s at .next))
       rule (fault p) e h = tt
       rule (found r next) e h = rest (readRules os s next) (h next)
         where

@@ -1,4 +1,5 @@
-// The translator: from a rule table's bytes into the handler space. Read handler/specs/Translate.antt first; in specs/ Emit says what the code stores.
+// The translator: from a rule table's bytes into the handler space. Read handler/specs/Translate.antt first; in specs/ Emit says what the
+// code stores.
 ghost use mathlib.Core.Path.{_≡_};
 ghost use Prim.Native.Nat.{_+_, _*_, _≤_, _^_};
 ghost use lib.ListN.{length};
@@ -169,7 +170,8 @@ fn emit_join(bytes: &[u8], mark: Mark, depth: usize, space: &mut [i64]) -> Mark
 // Whether a label flows to a second, which comes first on the stack: their join less the second.
 fn emit_flows(bytes: &[u8], mark: Mark, depth: usize, space: &mut [i64]) -> Mark
     requires { ⌜ mark .position + 6 * 2 ^ depth + 3 ≤ 2 ^ 20 ⌝ }
-    ensures { λ r. ⌜ Emitted (twoPieces flowsCode (labelCode depth (now (bytes .entry)))) mark (now (space .entry)) r (now (space .exit)) ⌝ }
+    ensures { λ r. ⌜ Emitted (twoPieces flowsCode (labelCode depth (now (bytes .entry))))
+        mark (now (space .entry)) r (now (space .exit)) ⌝ }
 {
     let start = mark.next;
     let after = skip_label(bytes, start, depth);
@@ -231,7 +233,8 @@ fn emit_condition(bytes: &[u8], mark: Mark, depth: usize, space: &mut [i64]) -> 
 // Both hold where the two numbers have no bit.
 fn emit_both(bytes: &[u8], mark: Mark, depth: usize, space: &mut [i64]) -> Mark
     requires { ⌜ mark .position + 16 * 2 ^ depth ≤ 2 ^ 20 ⌝ }
-    ensures { λ r. ⌜ Emitted (twoPieces joinCode (conditionCode depth (now (bytes .entry)))) mark (now (space .entry)) r (now (space .exit)) ⌝ }
+    ensures { λ r. ⌜ Emitted (twoPieces joinCode (conditionCode depth (now (bytes .entry))))
+        mark (now (space .entry)) r (now (space .exit)) ⌝ }
 {
     let first = emit_condition(bytes, mark, depth, space);
     let second = emit_condition(bytes, first, depth, space);
@@ -247,7 +250,8 @@ fn emit_both(bytes: &[u8], mark: Mark, depth: usize, space: &mut [i64]) -> Mark
 // Where the first holds 0 stays, and the second is passed over; the branch over it is stored when its length is known.
 fn emit_either(bytes: &[u8], mark: Mark, depth: usize, space: &mut [i64]) -> Mark
     requires { ⌜ mark .position + 16 * 2 ^ depth ≤ 2 ^ 20 ⌝ }
-    ensures { λ r. ⌜ Emitted (twoPieces eitherCode (conditionCode depth (now (bytes .entry)))) mark (now (space .entry)) r (now (space .exit)) ⌝ }
+    ensures { λ r. ⌜ Emitted (twoPieces eitherCode (conditionCode depth (now (bytes .entry))))
+        mark (now (space .entry)) r (now (space .exit)) ⌝ }
 {
     let first = emit_condition(bytes, mark, depth, space);
     let place = first.position;

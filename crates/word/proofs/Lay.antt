@@ -22,7 +22,12 @@ module _ {A : Type 0} where
   pub laidAt-cons : (at : ℕ) (x : A) (xs old : List A) → at < length old → laidAt at (x ∷ xs) old ≡ laidAt (suc at) xs (set old at x)
   unfolding laidAt
   laidAt-cons at x xs old h =
-      rw (take-suc-set old at x h, drop-set-lt (suc at + length xs) old at x (omega arith), add-suc at (length xs), suc-add at (length xs)) (simp append-assoc)
+      rw (
+        take-suc-set old at x h,
+        drop-set-lt (suc at + length xs) old at x (omega arith),
+        add-suc at (length xs),
+        suc-add at (length xs),
+      ) (simp append-assoc)
 
   -- or its last element stored, and the others laid before it
   pub laidAt-snoc : (at : ℕ) (xs : List A) (x : A) (old : List A) → at + length xs < length old

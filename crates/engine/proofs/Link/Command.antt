@@ -20,7 +20,8 @@ use Rattle.machine.specs.Step.{Outcome, Request, ask, provided, withValues, sta
 use Rattle.stack.specs.Words.{machine, pushed, dropped, gone, slotAt}
 use Rattle.step.specs.declared.find.Inputs.{Inputs}
 use Rattle.step.specs.Lent.{Cells, cells, Lent, After, after, OnStack, withStack}
-use Rattle.step.specs.Find.{first, second, loadFinding, storeFinding, twoValues, oneValue, callValues, oneFrame, loadCell, storeCell, findOf}
+use Rattle.step.specs.Find.{first, second, loadFinding, storeFinding, twoValues, oneValue, callValues, oneFrame, loadCell, storeCell}
+use Rattle.step.specs.Find.{findOf}
 use Rattle.step.specs.Effect.{sumOf, branchOf, refilling, arithEffect, popEffect, outputEffect, pushEffect}
 use Rattle.step.specs.Effect.{loadEffect, storeEffect, jumpEffect, bnzEffect, callEffect, effectOf}
 use Rattle.engine.specs.Memory.{output}
@@ -81,7 +82,8 @@ module _ {room : ℕ} {o₀ : Memory.Output} {s : State} {l : Lent} {o : Memory.
 
   -- the record with one entry more
   grown : (n : ℕ) → n < stackLimit
-      → pushed (machine (s .pc .number) (s .pc .label) n (length (s .lines))) ≡ machine (s .pc .number) (s .pc .label) (suc n) (length (s .lines))
+      → pushed (machine (s .pc .number) (s .pc .label) n (length (s .lines)))
+      ≡ machine (s .pc .number) (s .pc .label) (suc n) (length (s .lines))
   grown n fits = pushed-entry (s .pc .number) (s .pc .label) n (length (s .lines)) fits
 
   -- a value in place of the top, and of the one below it
@@ -156,8 +158,10 @@ module _ {room : ℕ} {o₀ : Memory.Output} {s : State} {l : Lent} {o : Memory.
           cells = r .cells;
           output =
               ap₂ output
-              (line-laid (λ x. x .number) (s .lines) line (o₀ .numbers) (ap (λ (x : Memory.Output). x .numbers) (r .output)) (omega (arith, h .numbersFit)))
-              (line-laid (λ x. pos (x .label)) (s .lines) line (o₀ .labels) (ap (λ (x : Memory.Output). x .labels) (r .output)) (omega (arith, h .labelsFit)));
+              (line-laid (λ x. x .number) (s .lines) line (o₀ .numbers) (ap (λ (x : Memory.Output). x .numbers) (r .output))
+              (omega (arith, h .numbersFit)))
+              (line-laid (λ x. pos (x .label)) (s .lines) line (o₀ .labels) (ap (λ (x : Memory.Output). x .labels) (r .output))
+              (omega (arith, h .labelsFit)));
         },
         under-one e,
       )

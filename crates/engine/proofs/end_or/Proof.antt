@@ -13,7 +13,8 @@ unfolding endOr
 returns c =
     let call = c .before .before .before .before in
     rw (
-      ← (rw (back-ok (call .before .before .args .m .pc .0) (omega (arith, call .before .struct-told .given))) at (call .unsigned .ensures)),
+      ← (rw (back-ok (call .before .before .args .m .pc .0) (omega (arith, call .before .struct-told .given)))
+          at (call .unsigned .ensures)),
       c .before .before .place .given .1,
       eq-eqb _ _ (c .if1 .taken),
     )
@@ -23,7 +24,8 @@ unfolding endOr
 returns-2 c =
     let call = c .before .before .before .before in
     rw (
-      ← (rw (back-ok (call .before .before .args .m .pc .0) (omega (arith, call .before .struct-told .given))) at (call .unsigned .ensures)),
+      ← (rw (back-ok (call .before .before .args .m .pc .0) (omega (arith, call .before .struct-told .given)))
+          at (call .unsigned .ensures)),
       c .before .before .place .given .1,
       ne-eqb _ _ (c .if1 .left),
     )
@@ -33,7 +35,8 @@ unfolding endOr
 returns-3 c =
     let call = c .before .before in
     rw (
-      ← (rw (back-ok (call .before .before .args .m .pc .0) (omega (arith, call .before .struct-told .given))) at (call .unsigned .ensures)),
+      ← (rw (back-ok (call .before .before .args .m .pc .0) (omega (arith, call .before .struct-told .given)))
+          at (call .unsigned .ensures)),
       c .enum-told .given .1,
     )
 

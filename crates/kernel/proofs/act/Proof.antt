@@ -13,7 +13,12 @@ returns c =
     let start = at-bits .before in
     let code = start .args .code in
     let n = start .args .operand in
-    rw (at-bits .to-bits .ensures, back {z = code} (start .fits .code), back {z = n} (start .fits .operand), residue-known code n (start .fits .code))
+    rw (
+      at-bits .to-bits .ensures,
+      back {z = code} (start .fits .code),
+      back {z = n} (start .fits .operand),
+      residue-known code n (start .fits .code),
+    )
     at (at-choose .choose .ensures)
 
 pub act-spec : {M : Type 1} → statement M

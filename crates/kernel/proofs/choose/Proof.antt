@@ -9,7 +9,8 @@ use denote.Ref.{now}
 use Rattle.word.proofs.Signed.{back}
 use Rattle.handler.specs.Kernel.{Load, Store, Dup, Swap, Jump, Push, Bnz}
 use Rattle.handler.specs.Space.{codeOf, known}
-use Rattle.kernel.proofs.Acting.{acts, acts-on, acts-none, acts-ret, fold-known, or-known, below-known, after-sub-known, after-bnz-known, past-known}
+use Rattle.kernel.proofs.Acting.{acts, acts-on, acts-none, acts-ret, fold-known, or-known, below-known, after-sub-known}
+use Rattle.kernel.proofs.Acting.{after-bnz-known, past-known}
 use borrow.Author.Needs.{needs}
 use Rattle.kernel.proofs.choose.Statement.{statement}
 use Rattle.kernel.proofs.choose.Tie as tie
@@ -91,7 +92,13 @@ returns-8 c =
     let start = at-if1 .before in
     let n = start .args .operand in
     let l : length (now (start .args .row)) ≡ 7 = start .pre .3 in
-    let e : start .args .code ≡ codeOf (Bnz n) = omega (arith, at-if1 .if1 .left, at-if6 .if6 .taken, at-if7 .if7 .left, at-if8 .if8 .left) in
+    let e : start .args .code ≡ codeOf (Bnz n) = omega (
+      arith,
+      at-if1 .if1 .left,
+      at-if6 .if6 .taken,
+      at-if7 .if7 .left,
+      at-if8 .if8 .left,
+    ) in
     acts _ _ _ _ _ _ _ (Bnz n) l (ap (λ (k : ℕ). known (pos k) n) e) (rw (back {z = n} (start .fits .operand)) at (c .bnz .ensures))
 
 returns-9 : tie.Need-returns-9

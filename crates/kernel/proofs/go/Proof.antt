@@ -9,7 +9,8 @@ use borrow.Author.Needs.{needs}
 use Rattle.word.proofs.Signed.{back-ok}
 use Rattle.handler.specs.Space.{instructionAt}
 use Rattle.kernel.specs.Words.{Acts, Held}
-use Rattle.kernel.proofs.Going.{Going, held-both, going-start, going-end, going-returned, going-denied, going-failed, going-forward, going-on}
+use Rattle.kernel.proofs.Going.{Going, held-both, going-start, going-end, going-returned, going-denied, going-failed}
+use Rattle.kernel.proofs.Going.{going-forward, going-on}
 use Rattle.kernel.proofs.go.Statement.{statement}
 use Rattle.kernel.proofs.go.Tie as tie
 
@@ -88,13 +89,16 @@ act-requires c κs =
     (omega (arith, near t), g .deep, g .size, g .words)
 
 add-steps : tie.Need-add-steps Inv-loop μ-loop
-add-steps c = record { fits = omega (arith, counted (test (c .before .before .before .before .before .before .before))) }
+add-steps c =
+    let at-act = c .before .before .before .before .before .before .before in
+    record { fits = omega (arith, counted (test at-act)) }
 
 loop-less : tie.Need-loop-less Inv-loop μ-loop
 loop-less c =
     let told = c .before .before .before .before in
     let a = told .before .before .before in
-    let f = going-forward _ _ _ _ (limited a) _ _ _ _ _ (head a .loop .inv) (test a .loop-test .taken) _ _ (acted a) (told .enum-told .given .1) in
+    let f = going-forward _ _ _ _ (limited a) _ _ _ _ _ (head a .loop .inv) (test a .loop-test .taken) _ _ (acted a)
+    (told .enum-told .given .1) in
     omega (arith, test a .loop-test .taken)
 
 loop-again : tie.Need-loop-again Inv-loop μ-loop
@@ -118,7 +122,8 @@ returns : tie.Need-returns Inv-loop μ-loop
 returns c =
     let a = c .before .before .before .before in
     rw (c .finish .ensures)
-    (going-returned _ _ _ _ (limited a) _ _ _ _ _ (head a .loop .inv) (test a .loop-test .taken) _ _ (acted a) (c .before .enum-told2 .given .1))
+    (going-returned _ _ _ _ (limited a) _ _ _ _ _ (head a .loop .inv) (test a .loop-test .taken) _ _ (acted a)
+    (c .before .enum-told2 .given .1))
 
 add-finish-2 : tie.Need-add-finish-2 Inv-loop μ-loop
 add-finish-2 c = record { fits = omega (arith, counted (test (c .before .before .before))) }
@@ -133,7 +138,8 @@ returns-2 : tie.Need-returns-2 Inv-loop μ-loop
 returns-2 c =
     let a = c .before .before .before .before in
     rw (c .finish2 .ensures)
-    (going-denied _ _ _ _ (limited a) _ _ _ _ _ (head a .loop .inv) (test a .loop-test .taken) _ _ (acted a) (c .before .enum-told3 .given .1))
+    (going-denied _ _ _ _ (limited a) _ _ _ _ _ (head a .loop .inv) (test a .loop-test .taken) _ _ (acted a)
+    (c .before .enum-told3 .given .1))
 
 same-length-5 : tie.Need-same-length-5 Inv-loop μ-loop
 same-length-5 c = stack-kept (c .before .before .before .before)
@@ -145,7 +151,8 @@ returns-3 : tie.Need-returns-3 Inv-loop μ-loop
 returns-3 c =
     let a = c .before .before .before .before in
     rw (c .finish3 .ensures)
-    (going-failed _ _ _ _ (limited a) _ _ _ _ _ (head a .loop .inv) (test a .loop-test .taken) _ _ (acted a) (c .before .enum-told4 .given .1))
+    (going-failed _ _ _ _ (limited a) _ _ _ _ _ (head a .loop .inv) (test a .loop-test .taken) _ _ (acted a)
+    (c .before .enum-told4 .given .1))
 
 same-length-7 : tie.Need-same-length-7 Inv-loop μ-loop
 same-length-7 c = c .before .before .loop .inv .size ∙ sym (c .before .before .before .before .pre .0)

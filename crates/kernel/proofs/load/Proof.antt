@@ -21,7 +21,9 @@ mul-stack : tie.Need-mul-stack
 mul-stack c = record { fits = omega (arith, small (c .before)) }
 
 shared-slice-copy-out-stack : tie.Need-shared-slice-copy-out-stack
-shared-slice-copy-out-stack c = omega (arith, small (c .before), c .before .before .before .before .before .before .pre .3)
+shared-slice-copy-out-stack c =
+    let start = c .before .before .before .before .before .before in
+    omega (arith, small (c .before), start .pre .3)
 
 returns-2 : tie.Need-returns-2
 returns-2 c =

@@ -89,7 +89,8 @@ returns-2 c =
     let m = lentMemory s in
     let x = at-go .go .last .1 .1 .1 .1 in
     let written =
-    at-write .write .ensures ∙ written-accepted (now (s .args .sheet)) (commands k) (now (s .args .program)) (fine k .decoded) (fine k .program) in
+    at-write .write .ensures ∙ written-accepted (now (s .args .sheet)) (commands k) (now (s .args .program)) (fine k .decoded)
+    (fine k .program) in
     loop-whole (now (s .args .sheet)) m (s .args .fuel) noneOwn (bytes k) (commands k) (fine k) standardRuler (fixed standard)
     standard-follows (λ u. standard-range) tt (count k) (same-count k) (at-write .write .last .1 .0) written
     (done (at-go .go .result) tt (lent (x .0) (cells (x .1 .0) (x .1 .1 .0))) (output (x .1 .1 .1 .0) (x .1 .1 .1 .1 .0)))

@@ -6,7 +6,8 @@ use mathlib.Core.Path.{_∙_, sym}
 use Prim.Native.Nat.{_-_}
 use denote.Ref.{now}
 use lib.ListN.{length}
-use Rattle.program.proofs.Checking.{Invariant, invariant-start, invariant-end, invariant-limit, invariant-unknown, invariant-cut, invariant-next, invariant-forward}
+use Rattle.program.proofs.Checking.{Invariant, invariant-start, invariant-end, invariant-limit, invariant-unknown}
+use Rattle.program.proofs.Checking.{invariant-cut, invariant-next, invariant-forward}
 use Rattle.program.proofs.check.Statement.{statement}
 use Rattle.program.proofs.check.Tie as tie
 
@@ -22,10 +23,13 @@ loop-holds c = invariant-start (now (c .before .args .bytes))
 returns : tie.Need-returns Inv-loop μ-loop
 returns c =
     let l = c .before .before in
-    invariant-limit (now (l .before .before .args .bytes)) (l .loop .at) (l .loop .count) (l .loop .inv) (c .before .loop-test .taken) (c .if1 .taken)
+    invariant-limit (now (l .before .before .args .bytes)) (l .loop .at) (l .loop .count) (l .loop .inv) (c .before .loop-test .taken)
+    (c .if1 .taken)
 
 add-count : tie.Need-add-count Inv-loop μ-loop
-add-count c = omega (arith, c .before .before .before .before .before .before .loop .inv .few)
+add-count c =
+    let at-loop = c .before .before .before .before .before .before in
+    omega (arith, at-loop .loop .inv .few)
 
 loop-less : tie.Need-loop-less Inv-loop μ-loop
 loop-less c =
@@ -43,14 +47,17 @@ loop-again : tie.Need-loop-again Inv-loop μ-loop
 loop-again c =
     let t = c .before .before .before in
     let l = t .before .before .before in
-    invariant-next (now (l .before .before .args .bytes)) (l .loop .at) (l .loop .count) (l .loop .inv) (t .before .before .loop-test .taken)
-    (t .before .if1 .left) (c .before .fetched .given .0 .0) (c .before .fetched .given .0 .1 .0) (sym (t .fetch .ensures) ∙ c .before .fetched .given .1)
+    invariant-next (now (l .before .before .args .bytes)) (l .loop .at) (l .loop .count) (l .loop .inv)
+    (t .before .before .loop-test .taken)
+    (t .before .if1 .left) (c .before .fetched .given .0 .0) (c .before .fetched .given .0 .1 .0)
+    (sym (t .fetch .ensures) ∙ c .before .fetched .given .1)
 
 returns-2 : tie.Need-returns-2 Inv-loop μ-loop
 returns-2 c =
     let t = c .before .before in
     let l = t .before .before .before in
-    invariant-unknown (now (l .before .before .args .bytes)) (l .loop .at) (l .loop .count) (l .loop .inv) (t .before .before .loop-test .taken)
+    invariant-unknown (now (l .before .before .args .bytes)) (l .loop .at) (l .loop .count) (l .loop .inv)
+    (t .before .before .loop-test .taken)
     (t .before .if1 .left) (sym (t .fetch .ensures) ∙ c .enum-told .given .1)
 
 returns-3 : tie.Need-returns-3 Inv-loop μ-loop

@@ -31,7 +31,10 @@ returns-2 c =
     let s = c .before .before .before .before .before in
     let a = s .before .before .before .before .before .before .args in
     let e = told (s .before .before) _ (s .shape .given .1) in
-    rw (c .with-field2 .ensures, c .before .i16-at .ensures) (fetch-field (now (a .bytes)) (a .at) _ _ _ e 2 (c .before .before .if2 .taken))
+    rw (
+      c .with-field2 .ensures,
+      c .before .i16-at .ensures,
+    ) (fetch-field (now (a .bytes)) (a .at) _ _ _ e 2 (c .before .before .if2 .taken))
 
 returns-3 : tie.Need-returns-3
 returns-3 c =

@@ -11,7 +11,8 @@ use mir.Facts.{toZ-pos}
 use Rattle.word.proofs.Signed.{back-ok}
 use Rattle.program.specs.declared.Fetched.the-variants.{Is}
 use Rattle.program.specs.Fetch.{fetchOf}
-use Rattle.program.proofs.Loading.{Writing, writing-start, writing-end, writing-full, writing-unknown, writing-cut, writing-forward, writing-next}
+use Rattle.program.proofs.Loading.{Writing, writing-start, writing-end, writing-full, writing-unknown, writing-cut}
+use Rattle.program.proofs.Loading.{writing-forward, writing-next}
 use Rattle.program.proofs.write.Statement.{statement}
 use Rattle.program.proofs.write.Tie as tie
 
@@ -49,10 +50,14 @@ module _ (c : tie.After-known-told Inv-loop μ-loop) where
   start = head c .before .before
 
   taken : head c .loop .at < length (now (start .args .bytes))
-  taken = c .before .before .before .before .before .before .before .loop-test .taken
+  taken =
+      let at-loop-test = c .before .before .before .before .before .before .before in
+      at-loop-test .loop-test .taken
 
   free : 2 ≤ length (head c .loop .space) - head c .loop .i
-  free = c .before .before .before .before .before .before .if1 .left
+  free =
+      let at-if1 = c .before .before .before .before .before .before in
+      at-if1 .if1 .left
 
   is : fetchOf (now (start .args .bytes)) (head c .loop .at) ≡ Is (c .before .fetched .given .0 .0) (c .before .fetched .given .0 .1 .0)
   is = sym (c .before .before .before .fetch .ensures) ∙ c .before .fetched .given .1
@@ -100,7 +105,9 @@ loop-again c =
     (writing-next _ _ _ _ _ (head c .loop .inv) (taken c) (free c) _ _ (is c))
 
 same-length-2 : tie.Need-same-length-2 Inv-loop μ-loop
-same-length-2 c = c .before .before .before .before .before .before .before .loop .inv .same
+same-length-2 c =
+    let at-loop = c .before .before .before .before .before .before .before in
+    at-loop .loop .inv .same
 
 returns-2 : tie.Need-returns-2 Inv-loop μ-loop
 returns-2 c =
@@ -109,7 +116,9 @@ returns-2 c =
     (sym (c .before .before .fetch .ensures) ∙ c .enum-told .given .1)
 
 same-length-3 : tie.Need-same-length-3 Inv-loop μ-loop
-same-length-3 c = c .before .before .before .before .before .before .before .loop .inv .same
+same-length-3 c =
+    let at-loop = c .before .before .before .before .before .before .before in
+    at-loop .loop .inv .same
 
 returns-3 : tie.Need-returns-3 Inv-loop μ-loop
 returns-3 c =

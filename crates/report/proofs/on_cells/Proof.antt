@@ -14,12 +14,15 @@ slice-aggregate-run c =
 
 slice-aggregate-run-2 : tie.Need-slice-aggregate-run-2
 slice-aggregate-run-2 c =
+    let start = c .before .before .before .before .before .before in
     let a = c .before .before .before .before .before .before .args in
-    sym (length-take-le (a .said .cells) (now (a .labels)) (c .before .before .before .before .before .before .pre .1))
+    sym (length-take-le (a .said .cells) (now (a .labels)) (start .pre .1))
 
 returns : tie.Need-returns
 returns c =
-    rw (← c .before .before .before .before .before .before .before .before .sheet .ensures) (c .before .before .before .before .run .ensures)
+    let at-sheet = c .before .before .before .before .before .before .before .before in
+    rw (← at-sheet .sheet .ensures)
+    (c .before .before .before .before .run .ensures)
 
 pub on-cells-spec : {M : Type 1} → statement M
 on-cells-spec =

@@ -37,15 +37,18 @@ module _ (e : tie.After-execute) where
       let x = e .execute .last .1 in
       left
       (endedBy (e .execute .result)
-      (memory (x .1 .1 .1 .1 .0) (lent (x .1 .1 .1 .1 .1 .0) (cells (x .0) (x .1 .0))) (output (x .1 .1 .1 .1 .1 .1 .1 .0) (x .1 .1 .1 .1 .1 .1 .1 .1 .0))))
+      (memory (x .1 .1 .1 .1 .0) (lent (x .1 .1 .1 .1 .1 .0) (cells (x .0) (x .1 .0)))
+      (output (x .1 .1 .1 .1 .1 .1 .1 .0) (x .1 .1 .1 .1 .1 .1 .1 .1 .0))))
       (x .1 .1 .1 .1 .1 .1 .0)
 
   ends : last ≡ endFor (cells values labels) (start .args .allowance) sheet
   ends =
+      let at-bytes = e .before .before .before .before .before .before .before .before .before .before in
+      let at-empty = e .before .before .before .before .before .before in
       e .execute .ensures
       ∙ ap₂ (λ (t : List ℕ) (row : List ℤ). tagged sheet t row (lentFor (cells values labels)) (zeros 302) (start .args .allowance))
-      (e .before .before .before .before .before .before .before .before .before .before .bytes .ensures)
-      (e .before .before .before .before .before .before .empty .ensures)
+      (at-bytes .bytes .ensures)
+      (at-empty .empty .ensures)
 
 lines-requires : tie.Need-lines-requires
 lines-requires c κs =

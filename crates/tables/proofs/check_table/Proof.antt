@@ -6,7 +6,8 @@ use native.Mathlib.Omega.{arith}
 use borrow.Author.Needs.{needs}
 use denote.Ref.{now}
 use Rattle.policy.specs.Read.{ruleCount}
-use Rattle.tables.proofs.TableReading.{Checking, checking-limit, checking-start, checking-fault, checking-next, checking-left-over, checking-end}
+use Rattle.tables.proofs.TableReading.{Checking, checking-limit, checking-start, checking-fault, checking-next}
+use Rattle.tables.proofs.TableReading.{checking-left-over, checking-end}
 use Rattle.tables.proofs.check_table.Statement.{statement}
 use Rattle.tables.proofs.check_table.Tie as tie
 
@@ -45,12 +46,14 @@ returns-2 c =
 returns-3 : tie.Need-returns-3 Inv-loop μ-loop
 returns-3 c =
     let l = c .before .before in
-    checking-left-over (now (l .before .before .before .args .bytes)) (l .loop .i) (l .loop .at) (l .loop .inv) (c .before .loop-test .left) (c .if2 .taken)
+    checking-left-over (now (l .before .before .before .args .bytes)) (l .loop .i) (l .loop .at) (l .loop .inv)
+    (c .before .loop-test .left) (c .if2 .taken)
 
 returns-4 : tie.Need-returns-4 Inv-loop μ-loop
 returns-4 c =
     let l = c .before .before in
-    checking-end (now (l .before .before .before .args .bytes)) (l .loop .i) (l .loop .at) (l .loop .inv) (c .before .loop-test .left) (c .if2 .left)
+    checking-end (now (l .before .before .before .args .bytes)) (l .loop .i) (l .loop .at) (l .loop .inv) (c .before .loop-test .left)
+    (c .if2 .left)
 
 pub check-table-spec : {M : Type 1} → statement M
 check-table-spec =

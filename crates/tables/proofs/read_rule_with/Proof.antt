@@ -12,14 +12,16 @@ returns : tie.Need-returns
 returns c =
     let f = c .before .before .before in
     let a = f .before .before .args in
-    λ o. rule-condition (keyOf o (a .supplied) (a .labels)) (a .supplied) (a .result) (now (a .bytes)) (a .at) (c .before .allowed .given .0 .0) (sym (f .read-condition .ensures o) ∙ c .before .allowed .given .1)
+    λ o. rule-condition (keyOf o (a .supplied) (a .labels)) (a .supplied) (a .result) (now (a .bytes)) (a .at)
+    (c .before .allowed .given .0 .0) (sym (f .read-condition .ensures o) ∙ c .before .allowed .given .1)
 
 returns-2 : tie.Need-returns-2
 returns-2 c =
     let r = c .before .before .before in
     let f = r .before .before in
     let a = f .before .before .before .before .args in
-    λ o. rule-place (keyOf o (a .supplied) (a .labels)) (a .supplied) (a .result) (now (a .bytes)) (a .at) (f .allowed2 .given .0 .0) (f .allowed2 .given .0 .1 .0)
+    λ o. rule-place (keyOf o (a .supplied) (a .labels)) (a .supplied) (a .result) (now (a .bytes)) (a .at) (f .allowed2 .given .0 .0)
+    (f .allowed2 .given .0 .1 .0)
     (sym (f .before .before .read-condition .ensures o) ∙ f .allowed2 .given .1)
     (c .before .place .given .0 .0) (sym (r .read-label .ensures o) ∙ c .before .place .given .1)
 
@@ -29,7 +31,8 @@ returns-3 c =
     let p = l .before .before in
     let f = p .before .before .before .before in
     let a = f .before .before .before .before .args in
-    λ o. rule-result (keyOf o (a .supplied) (a .labels)) (a .supplied) (a .result) (now (a .bytes)) (a .at) (f .allowed2 .given .0 .0) (f .allowed2 .given .0 .1 .0)
+    λ o. rule-result (keyOf o (a .supplied) (a .labels)) (a .supplied) (a .result) (now (a .bytes)) (a .at) (f .allowed2 .given .0 .0)
+    (f .allowed2 .given .0 .1 .0)
     (sym (f .before .before .read-condition .ensures o) ∙ f .allowed2 .given .1)
     (p .place2 .given .0 .0) (p .place2 .given .0 .1 .0) (sym (p .before .before .read-label .ensures o) ∙ p .place2 .given .1)
     _ (sym (l .read-result .ensures o) ∙ c .before .last .given .1)
@@ -41,7 +44,8 @@ returns-4 c =
     let f = p .before .before .before .before in
     let a = f .before .before .before .before .args in
     λ o. rw (c .verdict-if .ensures)
-    (rule-result (keyOf o (a .supplied) (a .labels)) (a .supplied) (a .result) (now (a .bytes)) (a .at) (f .allowed2 .given .0 .0) (f .allowed2 .given .0 .1 .0)
+    (rule-result (keyOf o (a .supplied) (a .labels)) (a .supplied) (a .result) (now (a .bytes)) (a .at) (f .allowed2 .given .0 .0)
+    (f .allowed2 .given .0 .1 .0)
     (sym (f .before .before .read-condition .ensures o) ∙ f .allowed2 .given .1)
     (p .place2 .given .0 .0) (p .place2 .given .0 .1 .0) (sym (p .before .before .read-label .ensures o) ∙ p .place2 .given .1)
     _ (sym (l .read-result .ensures o) ∙ c .before .before .last2 .given .1))

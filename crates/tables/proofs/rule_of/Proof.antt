@@ -32,7 +32,8 @@ loop-again c =
     let r = c .before .before .before in
     let l = r .before .before in
     let a = l .before .before .args in
-    passing-next (a .labels) (now (a .bytes)) (a .code) (l .loop .i) (l .loop .at) (l .loop .inv) (c .before .rule .given .0 .0) (c .before .rule .given .0 .1 .0)
+    passing-next (a .labels) (now (a .bytes)) (a .code) (l .loop .i) (l .loop .at) (l .loop .inv) (c .before .rule .given .0 .0)
+    (c .before .rule .given .0 .1 .0)
     (sym (r .read-rule .ensures) ∙ c .before .rule .given .1) (r .before .loop-test .taken)
 
 returns : tie.Need-returns Inv-loop μ-loop

@@ -66,7 +66,8 @@ module _ (k : tie.After-check) where
   checked : k .check .result ≡ checkAnswer answered
   checked =
       k .check .ensures
-      ∙ ap (λ own. checkAnswer (startOf sheet (runs .lent .cells .labels) (given runs fuel) own)) (ap (λ (x : Found). x .own) (k .before .before .rules .ensures))
+      ∙ ap (λ own. checkAnswer (startOf sheet (runs .lent .cells .labels) (given runs fuel) own))
+      (ap (λ (x : Found). x .own) (k .before .before .rules .ensures))
 
 -- and all were kept
 module _ (a : tie.After-checked2) where

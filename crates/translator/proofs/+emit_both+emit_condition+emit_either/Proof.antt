@@ -117,7 +117,12 @@ module _ (t : ℕ)
 
   room-both : l2 .emit-condition2 .result .position < 2 ^ 20
   room-both =
-      omega (arith, begin-both .pre .1, condition-room _ _ _ (first-both .emit-condition .ensures), condition-room _ _ _ (l2 .emit-condition2 .ensures))
+      omega (
+        arith,
+        begin-both .pre .1,
+        condition-room _ _ _ (first-both .emit-condition .ensures),
+        condition-room _ _ _ (l2 .emit-condition2 .ensures),
+      )
 
 -- or the second four places behind the first
 module _ (t : ℕ)
@@ -133,7 +138,12 @@ module _ (t : ℕ)
 
   room-either : l2 .emit-condition2 .result .position < 2 ^ 20
   room-either =
-      omega (arith, begin-either .pre .1, condition-room _ _ _ (first-either .emit-condition .ensures), condition-room _ _ _ (l2 .emit-condition2 .ensures))
+      omega (
+        arith,
+        begin-either .pre .1,
+        condition-room _ _ _ (first-either .emit-condition .ensures),
+        condition-room _ _ _ (l2 .emit-condition2 .ensures),
+      )
 
   behind : first-either .emit-condition .result .position + 4 ≤ l2 .emit-condition2 .result .position
   behind = omega (arith, l2 .emit-condition2 .ensures .position)
@@ -171,7 +181,8 @@ unfolding kernelWords
     (λ c.
     let l = c .before .before .before .before .before in
     let a = begin-both t l .args in
-    emits-join (conditionCode (a .depth) (now (a .bytes))) (a .mark .next) (a .mark .position) _ _ _ (first-both t l .emit-condition .ensures)
+    emits-join (conditionCode (a .depth) (now (a .bytes))) (a .mark .next) (a .mark .position) _ _ _
+    (first-both t l .emit-condition .ensures)
     _ _ (l .emit-condition2 .ensures) _ (c .before .emit .ensures)))
     (λ t.
     emit-condition-lts.spec (

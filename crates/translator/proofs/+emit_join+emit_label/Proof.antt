@@ -1,4 +1,5 @@
--- The proof of the cycle of calls {emit_join, emit_label}: the depth falls, and of two expressions at one depth each is translated after the pair.
+-- The proof of the cycle of calls {emit_join, emit_label}: the depth falls, and of two expressions at one depth each is translated after
+-- the pair.
 -- Assumes nothing.
 use mathlib.Core.Path.{_≡_, _∙_, sym, ap}
 use Prim.Native.Nat.{ℕ, _+_, _-_, _*_, _^_, _<_, _≤_}
@@ -70,15 +71,17 @@ module _ (t : ℕ)
 
 -- two label expressions were translated
 module _ (t : ℕ)
-    (l2 : emit-join-lts.After-emit-label2 (emit-label-below t, emit-label.Post, emit.Asked, emit.Learnt) (emit-join-at t) emit-join.Post) where
-  abbrev l1 : emit-join-lts.After-emit-label (emit-label-below t, emit-label.Post, emit.Asked, emit.Learnt) (emit-join-at t) emit-join.Post
-  l1 = l2 .before .before .before
+    (l2 : emit-join-lts.After-emit-label2 (emit-label-below t, emit-label.Post, emit.Asked, emit.Learnt) (emit-join-at t) emit-join.Post)
+  where
+    abbrev l1 : emit-join-lts.After-emit-label (emit-label-below t, emit-label.Post, emit.Asked, emit.Learnt) (emit-join-at t)
+        emit-join.Post
+    l1 = l2 .before .before .before
 
-  abbrev head : emit-join-lts.Start (emit-label-below t, emit-label.Post, emit.Asked, emit.Learnt) (emit-join-at t) emit-join.Post
-  head = l1 .before .before .before
+    abbrev head : emit-join-lts.Start (emit-label-below t, emit-label.Post, emit.Asked, emit.Learnt) (emit-join-at t) emit-join.Post
+    head = l1 .before .before .before
 
-  room : l2 .emit-label2 .result .position < 2 ^ 20
-  room = omega (arith, head .pre .1, label-room _ _ _ (l1 .emit-label .ensures), label-room _ _ _ (l2 .emit-label2 .ensures))
+    room : l2 .emit-label2 .result .position < 2 ^ 20
+    room = omega (arith, head .pre .1, label-room _ _ _ (l1 .emit-label .ensures), label-room _ _ _ (l2 .emit-label2 .ensures))
 
 pub +emit-join+emit-label-spec : {M : Type 1} → statement M
 unfolding kernelWords

@@ -33,7 +33,8 @@ pub +skip-label-spec : {M : Type 1} → statement M
     skip-label-lts.spec (token-of.Asked, token-of.Learnt, part-of.Asked, part-of.Learnt, skip-label-below t, skip-label.Post)
     (skip-label-at t) skip-label.Post
     -- returns: too deep
-    (λ c. let a = c .before .before .args in sym (ap (λ (p : Piece). p .next) (label-deep (a .depth) (now (a .bytes)) (a .at) (c .if1 .taken))))
+    (λ c. let a = c .before .before .args in
+    sym (ap (λ (p : Piece). p .next) (label-deep (a .depth) (now (a .bytes)) (a .at) (c .if1 .taken))))
     -- returns-2: missing
     (λ c.
     let a = c .before .before .before .args in

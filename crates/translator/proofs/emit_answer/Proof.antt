@@ -35,7 +35,8 @@ returns c =
     let l2 = c .before .before .before .before .before in
     let l1 = l2 .before .before .before in
     let a = begin l2 .args in
-    emits-answer (labelCode 8 (now (a .bytes))) (a .mark .next) (a .mark .position) _ _ _ (l1 .emit-label .ensures) _ _ (l2 .emit-label2 .ensures) _
+    emits-answer (labelCode 8 (now (a .bytes))) (a .mark .next) (a .mark .position) _ _ _ (l1 .emit-label .ensures) _ _
+    (l2 .emit-label2 .ensures) _
     (c .before .emit .ensures)
 
 pub emit-answer-spec : {M : Type 1} → statement M

@@ -28,7 +28,15 @@ shared-slice-copy-out-of-word : tie.Need-shared-slice-copy-out-of-word Inv-loop 
 shared-slice-copy-out-of-word c = c .loop-test .taken
 
 add-i : tie.Need-add-i Inv-loop μ-loop
-add-i c = record { fits = omega (arith, c .before .before .before .before .loop-test .taken, c .before .before .before .before .before .before .good .0 .0) }
+add-i c =
+    let start = c .before .before .before .before .before .before in
+    record {
+      fits = omega (
+        arith,
+        c .before .before .before .before .loop-test .taken,
+        start .good .0 .0,
+      );
+    }
 
 loop-less : tie.Need-loop-less Inv-loop μ-loop
 loop-less c = omega (arith, c .before .before .before .before .loop-test .taken)
@@ -38,7 +46,8 @@ loop-again c =
     let l = c .before .before .before .before .before in
     let labels = now (l .before .args .labels) in
     labelled-next labels (l .loop .i) (l .loop .inv) (c .before .before .before .before .loop-test .taken) (c .enum-told .given .0 .0)
-    (sym (rw (back-ok (getD labels (l .loop .i) (pos 0)) (omega (arith, c .before .before .before .of-word-arg .given))) at (c .before .before .of-word .ensures))
+    (sym (rw (back-ok (getD labels (l .loop .i) (pos 0)) (omega (arith, c .before .before .before .of-word-arg .given)))
+    at (c .before .before .of-word .ensures))
     ∙ c .enum-told .given .1)
 
 returns : tie.Need-returns Inv-loop μ-loop
@@ -46,7 +55,8 @@ returns c =
     let l = c .before .before .before .before .before in
     let labels = now (l .before .args .labels) in
     labelled-broken labels (l .loop .i) (l .loop .inv) (c .before .before .before .before .loop-test .taken)
-    (sym (rw (back-ok (getD labels (l .loop .i) (pos 0)) (omega (arith, c .before .before .before .of-word-arg .given))) at (c .before .before .of-word .ensures))
+    (sym (rw (back-ok (getD labels (l .loop .i) (pos 0)) (omega (arith, c .before .before .before .of-word-arg .given)))
+    at (c .before .before .of-word .ensures))
     ∙ c .enum-told2 .given .1)
 
 returns-2 : tie.Need-returns-2 Inv-loop μ-loop

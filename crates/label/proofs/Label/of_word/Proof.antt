@@ -17,13 +17,21 @@ returns-2 : tie.Need-returns-2
 unfolding stored
 returns-2 c =
     let before = c .before .before .before .before in
-    rw (← (rw (back (before .before .fits .word)) at (before .unsigned .ensures)), c .before .before .number .given .1, lt-ltb _ _ (c .if1 .taken))
+    rw (
+      ← (rw (back (before .before .fits .word)) at (before .unsigned .ensures)),
+      c .before .before .number .given .1,
+      lt-ltb _ _ (c .if1 .taken),
+    )
 
 returns-3 : tie.Need-returns-3
 unfolding stored
 returns-3 c =
     let before = c .before .before .before .before in
-    rw (← (rw (back (before .before .fits .word)) at (before .unsigned .ensures)), c .before .before .number .given .1, le-ltb _ _ (c .if1 .left))
+    rw (
+      ← (rw (back (before .before .fits .word)) at (before .unsigned .ensures)),
+      c .before .before .number .given .1,
+      le-ltb _ _ (c .if1 .left),
+    )
 
 pub of-word-spec : {M : Type 1} → statement M
 of-word-spec =

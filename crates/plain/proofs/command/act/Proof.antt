@@ -33,7 +33,13 @@ returns-3 : tie.Need-returns-3
 returns-3 c =
     let at-bits = c .before .before .before .before .before .before in
     let start = at-bits .before in
-    let is : at-bits .to-bits .result ≡ 4 = omega (arith, c .before .before .if4 .left, c .before .before .before .if3 .taken, c .before .before .before .before .if2 .left, c .before .before .before .before .before .if1 .taken) in
+    let is : at-bits .to-bits .result ≡ 4 = omega (
+      arith,
+      c .before .before .if4 .left,
+      c .before .before .before .if3 .taken,
+      c .before .before .before .before .if2 .left,
+      c .before .before .before .before .before .if1 .taken,
+    ) in
     c .output .ensures (start .args .word) (start .args .operand)
     (cells (now (start .args .values)) (now (start .args .labels))) (sym (bits at-bits) ∙ is)
 
@@ -41,7 +47,12 @@ returns-4 : tie.Need-returns-4
 returns-4 c =
     let at-bits = c .before .before .before .before .before .before in
     let start = at-bits .before in
-    let is : at-bits .to-bits .result ≡ 5 = omega (arith, c .before .before .before .if3 .left, c .before .before .before .before .if2 .left, c .before .before .before .before .before .if1 .taken) in
+    let is : at-bits .to-bits .result ≡ 5 = omega (
+      arith,
+      c .before .before .before .if3 .left,
+      c .before .before .before .before .if2 .left,
+      c .before .before .before .before .before .if1 .taken,
+    ) in
     rw (back {z = start .args .operand} (start .fits .operand)) at
     (c .before .push .ensures (start .args .word) (cells (now (start .args .values)) (now (start .args .labels))) (sym (bits at-bits) ∙ is))
 
@@ -49,13 +60,22 @@ returns-5 : tie.Need-returns-5
 returns-5 c =
     let at-bits = c .before .before .before .before .before .before .before .before in
     let start = at-bits .before in
-    c .before .load .ensures (start .args .word) (start .args .operand) (sym (bits at-bits) ∙ c .before .before .before .before .before .if6 .taken)
+    c .before .load .ensures (start .args .word) (start .args .operand)
+    (sym (bits at-bits) ∙ c .before .before .before .before .before .if6 .taken)
 
 returns-6 : tie.Need-returns-6
 returns-6 c =
+    let at-if6 = c .before .before .before .before .before .before in
+    let at-if5 = c .before .before .before .before .before .before .before in
+    let at-if1 = c .before .before .before .before .before .before .before .before in
     let at-bits = c .before .before .before .before .before .before .before .before .before in
     let start = at-bits .before in
-    let is : at-bits .to-bits .result ≡ 7 = omega (arith, c .before .before .before .before .before .before .if6 .left, c .before .before .before .before .before .before .before .if5 .taken, c .before .before .before .before .before .before .before .before .if1 .left) in
+    let is : at-bits .to-bits .result ≡ 7 = omega (
+      arith,
+      at-if6 .if6 .left,
+      at-if5 .if5 .taken,
+      at-if1 .if1 .left,
+    ) in
     c .before .before .store .ensures (start .args .word) (start .args .operand) (sym (bits at-bits) ∙ is)
 
 returns-7 : tie.Need-returns-7
@@ -69,7 +89,13 @@ returns-8 : tie.Need-returns-8
 returns-8 c =
     let at-bits = c .before .before .before .before .before .before in
     let start = at-bits .before in
-    let is : at-bits .to-bits .result ≡ 9 = omega (arith, c .before .before .if8 .left, c .before .before .before .if7 .taken, c .before .before .before .before .if5 .left, c .before .before .before .before .before .if1 .left) in
+    let is : at-bits .to-bits .result ≡ 9 = omega (
+      arith,
+      c .before .before .if8 .left,
+      c .before .before .before .if7 .taken,
+      c .before .before .before .before .if5 .left,
+      c .before .before .before .before .before .if1 .left,
+    ) in
     rw (back {z = start .args .operand} (start .fits .operand)) at
     (c .bnz .ensures (start .args .word) (cells (now (start .args .values)) (now (start .args .labels))) (sym (bits at-bits) ∙ is))
 
@@ -85,7 +111,12 @@ returns-10 c =
     let at-bits = c .before .before .before .before .before .before in
     let start = at-bits .before in
     let other = c .before .before .if9 .left in
-    let more : 10 < at-bits .to-bits .result = omega (arith, c .before .before .before .if7 .left, c .before .before .before .before .if5 .left, c .before .before .before .before .before .if1 .left) in
+    let more : 10 < at-bits .to-bits .result = omega (
+      arith,
+      c .before .before .before .if7 .left,
+      c .before .before .before .before .if5 .left,
+      c .before .before .before .before .before .if1 .left,
+    ) in
     c .ret .ensures (start .args .word) (start .args .operand)
     (cells (now (start .args .values)) (now (start .args .labels))) (rw (bits at-bits) at more)
 

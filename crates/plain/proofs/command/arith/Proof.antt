@@ -38,7 +38,8 @@ returns-2 c = λ word operand k e.
       lt-ltb (start .args .code) 6 (omega (arith, start .pre)),
       lt-ltb (start .args .code) 3 (start .pre),
     ) (at-find .two-values .ensures) in
-    act-allowed word operand (start .args .m) l (at-find .two-values .result) found (c .before .before .before .before .if1 .left) (start .args .m .label .0) (c .before .before .before .join .result .0) (rw (
+    act-allowed word operand (start .args .m) l (at-find .two-values .result) found (c .before .before .before .before .if1 .left)
+    (start .args .m .label .0) (c .before .before .before .join .result .0) (rw (
       e,
       lt-ltb (start .args .code) 6 (omega (arith, start .pre)),
       lt-ltb (start .args .code) 3 (start .pre),

@@ -28,7 +28,8 @@ returns-2 c = λ word operand k e.
     let start = at-find .before .before in
     let l = lent (now (start .args .stack)) k in
     let found : at-find .call-values .result ≡ findOf (residue 64 word) (start .args .m) l = rw e (at-find .call-values .ensures) in
-    act-allowed word operand (start .args .m) l (at-find .call-values .result) found (c .before .before .before .before .if1 .left) (c .before .before .before .join .result .0) (start .args .m .label .0) (rw (e, c .before .before .before .join .ensures)) _
+    act-allowed word operand (start .args .m) l (at-find .call-values .result) found (c .before .before .before .before .if1 .left)
+    (c .before .before .before .join .result .0) (start .args .m .label .0) (rw (e, c .before .before .before .join .ensures)) _
     (rw e (ap (withStack l) (c .before .call .ensures)))
 
 pub call-spec : {M : Type 1} → statement M

@@ -28,7 +28,8 @@ returns-2 c = λ word operand e.
     let start = at-find .before .before in
     let l = lent (now (start .args .stack)) (cells (now (start .args .values)) (now (start .args .labels))) in
     let found : at-find .load-cell .result ≡ findOf (residue 64 word) (start .args .m) l = rw e (at-find .load-cell .ensures) in
-    act-allowed word operand (start .args .m) l (at-find .load-cell .result) found (c .before .before .before .before .if1 .left) (start .args .m .label .0) (c .before .before .before .join .result .0) (rw (e, c .before .before .before .join .ensures)) _
+    act-allowed word operand (start .args .m) l (at-find .load-cell .result) found (c .before .before .before .before .if1 .left)
+    (start .args .m .label .0) (c .before .before .before .join .result .0) (rw (e, c .before .before .before .join .ensures)) _
     (rw e (ap (withStack l) (c .before .load .ensures)))
 
 pub load-spec : {M : Type 1} → statement M

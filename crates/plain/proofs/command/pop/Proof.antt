@@ -28,7 +28,8 @@ returns-2 c = λ word operand k e.
     let start = at-find .before in
     let l = lent (now (start .args .stack)) k in
     let found : at-find .one-value .result ≡ findOf (residue 64 word) (start .args .m) l = rw e (at-find .one-value .ensures) in
-    act-allowed word operand (start .args .m) l (at-find .one-value .result) found (c .before .if1 .left) (start .args .m .label .0) 0 (rw e) _
+    act-allowed word operand (start .args .m) l (at-find .one-value .result) found (c .before .if1 .left) (start .args .m .label .0) 0
+    (rw e) _
     (rw e (ap (λ r. after r l) (c .pop .ensures)))
 
 pub pop-spec : {M : Type 1} → statement M

@@ -40,7 +40,8 @@ returns-2 c = λ word operand k e.
       le-ltb (residue 64 word) 10 (omega arith),
       ne-eqb (residue 64 word) 10 (λ g. omega arith),
     ) (at-find .one-frame .ensures) in
-    act-allowed word operand (start .args .m) l (at-find .one-frame .result) found (c .before .if1 .left) (at-find .one-frame .result .input1 .0) 0 (rw (
+    act-allowed word operand (start .args .m) l (at-find .one-frame .result) found (c .before .if1 .left)
+    (at-find .one-frame .result .input1 .0) 0 (rw (
       le-ltb (residue 64 word) 6 (omega arith),
       le-ltb (residue 64 word) 8 (omega arith),
       le-ltb (residue 64 word) 10 (omega arith),

@@ -33,7 +33,8 @@ returns-2 c = λ word operand e.
     let start = at-find .before .before .before in
     let l = lent (now (start .args .stack)) (cells (now (start .args .values)) (now (start .args .labels))) in
     let found : at-find .store-cell .result ≡ findOf (residue 64 word) (start .args .m) l = rw e (at-find .store-cell .ensures) in
-    act-allowed word operand (start .args .m) l (at-find .store-cell .result) found (at-if1 .if1 .left) (start .args .m .label .0) (at-join3 .join3 .result .0)
+    act-allowed word operand (start .args .m) l (at-find .store-cell .result) found (at-if1 .if1 .left) (start .args .m .label .0)
+    (at-join3 .join3 .result .0)
     (rw (
       e,
       ← at-join .join .ensures,

@@ -17,7 +17,8 @@ module _ (a : tie.After-to-bits) where
   bits = a .to-bits .ensures ∙ ap (residue 64) (back-ok _ fits)
 
 returns : tie.Need-returns
-returns c = let a = c .before in rw (bits a) (bits-below _ _ (fits a) (omega (arith, a .before .before .pre)) (rw (bits a) at (c .if1 .taken)))
+returns c = let a = c .before in
+    rw (bits a) (bits-below _ _ (fits a) (omega (arith, a .before .before .pre)) (rw (bits a) at (c .if1 .taken)))
 
 returns-2 : tie.Need-returns-2
 returns-2 c = let a = c .before in bits-above _ _ (fits a) (rw (bits a) at (c .if1 .left))

@@ -15,12 +15,17 @@ cast-t6 c =
     let bytes = c .before .before .before .before .shared-slice-known .given in
     let z = c .before .field .given .0 .0 in
     rw (back-ok z (c .known-told .given .0 .1))
-    (four-fits (now (a .job)) (a .at) z (sym (c .before .before .before .u32-at .ensures) ∙ c .before .field .given .1) (λ i. bytes i .fits))
+    (four-fits (now (a .job)) (a .at) z (sym (c .before .before .before .u32-at .ensures) ∙ c .before .field .given .1)
+    (λ i. bytes i .fits))
 
 returns : tie.Need-returns
 unfolding fourAt
 returns c =
-    rw (back-ok (c .before .field .given .0 .0) (c .known-told .given .0 .1), ← c .before .before .before .u32-at .ensures, c .before .field .given .1)
+    rw (
+      back-ok (c .before .field .given .0 .0) (c .known-told .given .0 .1),
+      ← c .before .before .before .u32-at .ensures,
+      c .before .field .given .1,
+    )
 
 returns-2 : tie.Need-returns-2
 unfolding fourAt

@@ -18,12 +18,14 @@ returns c =
 returns-2 : tie.Need-returns-2
 returns-2 c =
     let a = c .before .before .before .before .before .before .args in
-    c .allowance .ensures ∙ ap allowance (c .before .four-at2 .ensures) ∙ item-allowance (now (a .job)) (a .at) (c .before .before .if2 .taken)
+    c .allowance .ensures ∙ ap allowance (c .before .four-at2 .ensures)
+    ∙ item-allowance (now (a .job)) (a .at) (c .before .before .if2 .taken)
 
 returns-3 : tie.Need-returns-3
 returns-3 c =
     let a = c .before .before .before .before .before .before .before .args in
-    c .reader-set .ensures ∙ ap readerSet (c .before .four-at3 .ensures) ∙ item-reader (now (a .job)) (a .at) (c .before .before .if3 .taken)
+    c .reader-set .ensures ∙ ap readerSet (c .before .four-at3 .ensures)
+    ∙ item-reader (now (a .job)) (a .at) (c .before .before .if3 .taken)
 
 returns-4 : tie.Need-returns-4
 returns-4 c =
@@ -33,7 +35,8 @@ returns-4 c =
 returns-5 : tie.Need-returns-5
 returns-5 c =
     let a = c .before .before .before .before .before .before .args in
-    item-unknown (now (a .job)) (a .at) (c .before .before .before .if1 .left) (c .before .before .if2 .left) (c .before .if3 .left) (c .if4 .left)
+    item-unknown (now (a .job)) (a .at) (c .before .before .before .if1 .left) (c .before .before .if2 .left) (c .before .if3 .left)
+    (c .if4 .left)
 
 pub item-at-spec : {M : Type 1} → statement M
 item-at-spec =

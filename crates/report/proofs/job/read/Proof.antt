@@ -11,7 +11,8 @@ use mir.Facts.{toZ-pos}
 use Rattle.word.proofs.Signed.{back-ok}
 use Rattle.report.specs.declared.job.Item.{Item}
 use Rattle.report.specs.Job.{itemAt}
-use Rattle.report.proofs.Reading.{Going, answered-long, going-start, going-same, going-end, going-bad, going-sheet, going-limit, going-cell}
+use Rattle.report.proofs.Reading.{Going, answered-long, going-start, going-same, going-end, going-bad, going-sheet, going-limit}
+use Rattle.report.proofs.Reading.{going-cell}
 use Rattle.report.proofs.Reading.{going-allowance, going-reader}
 use Rattle.report.proofs.job.read.Statement.{statement}
 use Rattle.report.proofs.job.read.Tie as tie
@@ -49,10 +50,14 @@ loop-holds : tie.Need-loop-holds Inv-loop μ-loop
 loop-holds c = going-start _ _ _ (c .if1 .left)
 
 same-length : tie.Need-same-length Inv-loop μ-loop
-same-length c = same-values (c .before .before .before .before .before .before)
+same-length c =
+    let at-loop = c .before .before .before .before .before .before in
+    same-values at-loop
 
 same-length-2 : tie.Need-same-length-2 Inv-loop μ-loop
-same-length-2 c = same-labels (c .before .before .before .before .before .before)
+same-length-2 c =
+    let at-loop = c .before .before .before .before .before .before in
+    same-labels at-loop
 
 returns-2 : tie.Need-returns-2 Inv-loop μ-loop
 returns-2 c =
@@ -60,7 +65,14 @@ returns-2 c =
     going-limit _ _ _ _ _ _ _ _ _ (head t .loop .inv) (taken t) _ _ (is t (c .before .before .item .given .1)) (c .if2 .taken)
 
 add-cells : tie.Need-add-cells Inv-loop μ-loop
-add-cells c = record { fits = omega (arith, head (c .before .before .before .before .before .before .before .before .before .before) .loop .inv .few) }
+add-cells c =
+    let at-item-at = c .before .before .before .before .before .before .before .before .before .before in
+    record {
+      fits = omega (
+        arith,
+        head at-item-at .loop .inv .few,
+      );
+    }
 
 add-at : tie.Need-add-at Inv-loop μ-loop
 add-at c =
@@ -68,10 +80,13 @@ add-at c =
     record { fits = omega (arith, head t .loop .inv .short, taken t) }
 
 loop-less : tie.Need-loop-less Inv-loop μ-loop
-loop-less c = omega (arith, taken (c .before .before .before .before .before .before .before .before .before .before))
+loop-less c =
+    let at-item-at = c .before .before .before .before .before .before .before .before .before .before in
+    omega (arith, taken at-item-at)
 
 loop-again : tie.Need-loop-again Inv-loop μ-loop
 loop-again c =
+    let at-if2 = c .before .before .before .before .before .before in
     let t = c .before .before .before .before .before .before .before .before .before .before in
     let item = c .before .before .before .before .before .before .before .before .item in
     let told = c .before .before .before .before .before .before .before .known-told .given .0 in
@@ -82,7 +97,8 @@ loop-again c =
       back-ok (item .given .0 .0) (told .1),
       toZ-pos w64 small,
     )
-    (going-cell _ _ _ _ _ _ _ _ _ (head t .loop .inv) (taken t) _ _ (is t (item .given .1)) (c .before .before .before .before .before .before .if2 .left))
+    (going-cell _ _ _ _ _ _ _ _ _ (head t .loop .inv) (taken t) _ _ (is t (item .given .1))
+    (at-if2 .if2 .left))
 
 add-at-2 : tie.Need-add-at-2 Inv-loop μ-loop
 add-at-2 c = record { fits = omega (arith, head (c .before .before .before) .loop .inv .short, taken (c .before .before .before)) }

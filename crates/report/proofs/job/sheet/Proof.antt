@@ -16,7 +16,8 @@ returns c =
     take-all (length (now (a .job)) - a .start) (drop (a .start) (now (a .job))) (simp length-drop (omega arith))
 
 returns-2 : tie.Need-returns-2
-returns-2 c = sym (drop-of-length-le (now (c .before .before .args .job)) {i = c .before .before .args .start} (omega (arith, c .before .if1 .left)))
+returns-2 c = sym (drop-of-length-le (now (c .before .before .args .job)) {i = c .before .before .args .start}
+    (omega (arith, c .before .if1 .left)))
 
 pub sheet-spec : {M : Type 1} → statement M
 sheet-spec =

@@ -19,7 +19,8 @@ returns c =
     let last = c .before .before in
     let offset = last .before .before .before .before .before in
     let word = offset .before .before .before .before in
-    written-job _ _ _ _ _ _ _ _ (word .before .before .before .before .pre) (word .bytes .ensures) (offset .number .ensures) (last .bytes2 .ensures)
+    written-job _ _ _ _ _ _ _ _ (word .before .before .before .before .pre) (word .bytes .ensures) (offset .number .ensures)
+    (last .bytes2 .ensures)
 
 pub bad-job-spec : {M : Type 1} → statement M
 bad-job-spec =

@@ -17,7 +17,8 @@ module _ (c : tie.After-signed-number) where
   abbrev start : tie.Start
   start = c .before .before .before
 
-  first : Written (decimal (start .args .n)) (now (start .args .out)) (start .args .at) (c .signed-number .result) (c .signed-number .last .1 .0)
+  first : Written (decimal (start .args .n)) (now (start .args .out)) (start .args .at) (c .signed-number .result)
+      (c .signed-number .last .1 .0)
   first = rw (back (start .fits .n)) at (c .signed-number .ensures)
 
   short : length (decimal (start .args .n)) ≤ 20

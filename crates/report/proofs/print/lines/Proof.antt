@@ -51,20 +51,28 @@ shown-requires c κs =
 
 add-i : tie.Need-add-i Inv-loop μ-loop
 add-i c =
+    let at-loop-test = c .before .before .before .before .before .before .before in
     let h = c .before .before .before .before .before .before .before .before in
-    record { fits = omega (arith, c .before .before .before .before .before .before .before .loop-test .taken, h .before .room2 .ok) }
+    record { fits = omega (arith, at-loop-test .loop-test .taken, h .before .room2 .ok) }
 
 loop-less : tie.Need-loop-less Inv-loop μ-loop
-loop-less c = omega (arith, c .before .before .before .before .before .before .before .loop-test .taken)
+loop-less c =
+    let at-loop-test = c .before .before .before .before .before .before .before in
+    omega (arith, at-loop-test .loop-test .taken)
 
 loop-again : tie.Need-loop-again Inv-loop μ-loop
 loop-again c =
+    let at-loop-test = c .before .before .before .before .before .before .before in
     let h = c .before .before .before .before .before .before .before .before in
     let a = start h .args in
     let i = h .loop .i in
     let at = c .before .before .before .before .before .before .at in
     let at2 = c .before .before .before .before .before .at2 in
-    let below : i < length (all h) = omega (arith, counted h, c .before .before .before .before .before .before .before .loop-test .taken) in
+    let below : i < length (all h) = omega (
+      arith,
+      counted h,
+      at-loop-test .loop-test .taken,
+    ) in
     let line =
     ap₂ (λ (n : ℤ) (l : ℕ). shownText (a .reader .0) (record { number = n; label = l }))
     (back-ok (at .result) (at .ok) ∙ at .ensures)
@@ -72,7 +80,8 @@ loop-again c =
     printing-next (a .reader .0) (all h) (now (a .out)) (h .loop .out) (h .loop .at) i (h .loop .inv)
     (lineAt (now (a .numbers)) (now (a .line-labels)) (a .written) i)
     (first-at (now (a .numbers)) (now (a .line-labels)) (a .written) i below) below (rw (at .ensures) at (at .ok)) (fits h) _ _
-    (subst (λ (t : List ℕ). Written t (h .loop .out) (h .loop .at) (c .before .before .shown .result) (c .before .before .shown .last .1 .1 .1 .0)) line
+    (subst (λ (t : List ℕ). Written t (h .loop .out) (h .loop .at) (c .before .before .shown .result)
+    (c .before .before .shown .last .1 .1 .1 .0)) line
     (c .before .before .shown .ensures))
 
 same-length : tie.Need-same-length Inv-loop μ-loop

@@ -16,7 +16,8 @@ returns-2 : tie.Need-returns-2
 returns-2 c =
     let t = c .before .before .before in
     c .found .ensures
-    ∙ call-carried (t .before .args .m) (now (t .before .args .stack)) (t .two-values .result) (t .two-values .ensures) (c .before .if1 .left)
+    ∙ call-carried (t .before .args .m) (now (t .before .args .stack)) (t .two-values .result) (t .two-values .ensures)
+    (c .before .if1 .left)
 
 pub call-values-spec : {M : Type 1} → statement M
 call-values-spec = tie.close (tie.spec (λ c κs. search needs) returns (λ c κs. search needs) returns-2)

@@ -60,7 +60,13 @@ returns-7 c =
     let at-if6 = at-if7 .before in
     let at-if4 = at-if6 .before in
     let at-if1 = at-if4 .before in
-    rw (le-ltb _ _ (at-if1 .if1 .left), le-ltb _ _ (at-if4 .if4 .left), le-ltb _ _ (at-if6 .if6 .left), eq-eqb _ _ (at-if7 .if7 .taken), c .call-values .ensures)
+    rw (
+      le-ltb _ _ (at-if1 .if1 .left),
+      le-ltb _ _ (at-if4 .if4 .left),
+      le-ltb _ _ (at-if6 .if6 .left),
+      eq-eqb _ _ (at-if7 .if7 .taken),
+      c .call-values .ensures,
+    )
 
 returns-8 : tie.Need-returns-8
 unfolding findOf
@@ -69,7 +75,13 @@ returns-8 c =
     let at-if6 = at-if7 .before in
     let at-if4 = at-if6 .before in
     let at-if1 = at-if4 .before in
-    rw (le-ltb _ _ (at-if1 .if1 .left), le-ltb _ _ (at-if4 .if4 .left), le-ltb _ _ (at-if6 .if6 .left), ne-eqb _ _ (at-if7 .if7 .left), c .one-frame .ensures)
+    rw (
+      le-ltb _ _ (at-if1 .if1 .left),
+      le-ltb _ _ (at-if4 .if4 .left),
+      le-ltb _ _ (at-if6 .if6 .left),
+      ne-eqb _ _ (at-if7 .if7 .left),
+      c .one-frame .ensures,
+    )
 
 pub find-spec : {M : Type 1} → statement M
 find-spec =

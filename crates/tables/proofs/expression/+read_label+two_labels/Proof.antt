@@ -1,4 +1,5 @@
--- The proof of the cycle of calls {read_label, two_labels}: the depth falls, and of two expressions at one depth each is read after the pair.
+-- The proof of the cycle of calls {read_label, two_labels}: the depth falls, and of two expressions at one depth each is read after the
+-- pair.
 -- Assumes nothing.
 use mathlib.Core.Path.{_∙_, sym, ap}
 use Prim.Native.Nat.{ℕ, _+_, _*_, _<_}
@@ -45,12 +46,23 @@ pub +read-label+two-labels-spec : {M : Type 1} → statement M
 +read-label+two-labels-spec =
     close μ-read-label μ-two-labels
     (λ t.
-    read-label-lts.spec (token-of.Asked, token-of.Learnt, leaf-of.Asked, leaf-of.Learnt, two-labels-below t, two-labels.Post, joined.Asked, joined.Learnt)
+    read-label-lts.spec (
+      token-of.Asked,
+      token-of.Learnt,
+      leaf-of.Asked,
+      leaf-of.Learnt,
+      two-labels-below t,
+      two-labels.Post,
+      joined.Asked,
+      joined.Learnt,
+    )
     (read-label-at t) read-label.Post
     -- returns: too deep
-    (λ c. λ o. let a = c .before .before .args in label-deep o (a .depth) (a .supplied) (now (a .bytes)) (a .labels) (a .at) (c .if1 .taken))
+    (λ c. λ o. let a = c .before .before .args in
+    label-deep o (a .depth) (a .supplied) (now (a .bytes)) (a .labels) (a .at) (c .if1 .taken))
     -- returns-2: missing
-    (λ c. λ o. let a = c .before .before .before .args in label-missing o (a .depth) (a .supplied) (now (a .bytes)) (a .labels) (a .at) (c .if2 .taken))
+    (λ c. λ o. let a = c .before .before .before .args in
+    label-missing o (a .depth) (a .supplied) (now (a .bytes)) (a .labels) (a .at) (c .if2 .taken))
     -- add-next
     (λ c. search needs)
     -- shared-slice-read-token-of
@@ -66,7 +78,10 @@ pub +read-label+two-labels-spec : {M : Type 1} → statement M
     -- sub-two-labels
     (λ c. search needs)
     -- two-labels-requires
-    (λ c κs. (let b = c .before .before .before .before .before in omega (arith, b .before .if1 .left, b .before .before .before .pre .0), tt))
+    (λ c κs. (
+      let b = c .before .before .before .before .before in omega (arith, b .before .if1 .left, b .before .before .before .pre .0),
+      tt,
+    ))
     -- joined-requires
     (λ c κs. tt)
     -- enum-told-2
@@ -76,21 +91,27 @@ pub +read-label+two-labels-spec : {M : Type 1} → statement M
     let l = c .before .before .before in
     let b = l .before .before .before in
     let a = b .before .before .before .args in
-    let e = ap (λ x. leafOf x (a .supplied) (a .labels)) (sym (l .before .token-of .ensures)) ∙ sym (l .leaf-of .ensures) ∙ c .before .leaf .given .1 in
+    let e = ap (λ x. leafOf x (a .supplied) (a .labels)) (sym (l .before .token-of .ensures)) ∙ sym (l .leaf-of .ensures)
+    ∙ c .before .leaf .given .1 in
     label-first o (a .depth) (a .supplied) (now (a .bytes)) (a .labels) (a .at) (b .before .if1 .left) (b .if2 .left) _ e)
     -- returns-4: a join of two
     (λ c. λ o.
     let l = c .before .before .before .before in
     let b = l .before .before .before in
     let a = b .before .before .before .args in
-    let e = ap (λ x. leafOf x (a .supplied) (a .labels)) (sym (l .before .token-of .ensures)) ∙ sym (l .leaf-of .ensures) ∙ c .before .before .enum-told .given .1 in
-    rw (c .joined .ensures, c .before .two-labels .ensures o) (label-first o (a .depth) (a .supplied) (now (a .bytes)) (a .labels) (a .at) (b .before .if1 .left) (b .if2 .left) _ e))
+    let e = ap (λ x. leafOf x (a .supplied) (a .labels)) (sym (l .before .token-of .ensures)) ∙ sym (l .leaf-of .ensures)
+    ∙ c .before .before .enum-told .given .1 in
+    rw (
+      c .joined .ensures,
+      c .before .two-labels .ensures o,
+    ) (label-first o (a .depth) (a .supplied) (now (a .bytes)) (a .labels) (a .at) (b .before .if1 .left) (b .if2 .left) _ e))
     -- returns-5: no label expression
     (λ c. λ o.
     let l = c .before .before in
     let b = l .before .before .before in
     let a = b .before .before .before .args in
-    let e = ap (λ x. leafOf x (a .supplied) (a .labels)) (sym (l .before .token-of .ensures)) ∙ sym (l .leaf-of .ensures) ∙ c .enum-told2 .given .1 in
+    let e = ap (λ x. leafOf x (a .supplied) (a .labels)) (sym (l .before .token-of .ensures)) ∙ sym (l .leaf-of .ensures)
+    ∙ c .enum-told2 .given .1 in
     label-first o (a .depth) (a .supplied) (now (a .bytes)) (a .labels) (a .at) (b .before .if1 .left) (b .if2 .left) _ e))
     (λ t.
     two-labels-lts.spec (read-label-below t, read-label.Post) (two-labels-at t) two-labels.Post
@@ -108,19 +129,23 @@ pub +read-label+two-labels-spec : {M : Type 1} → statement M
     (λ c. λ o.
     let f = c .before .before .before in
     let a = f .before .before .args in
-    two-labels-first (keyOf o (a .supplied) (a .labels)) (readLabel (a .depth) (a .supplied) (now (a .bytes))) (a .at) (c .before .first .given .0 .0)
+    two-labels-first (keyOf o (a .supplied) (a .labels)) (readLabel (a .depth) (a .supplied) (now (a .bytes))) (a .at)
+    (c .before .first .given .0 .0)
     (sym (f .read-label .ensures o) ∙ c .before .first .given .1))
     -- returns-2: the second
     (λ c. λ o.
     let r = c .before .before .before in
     let f = r .before .before in
     let a = f .before .before .before .before .args in
-    two-labels-second (keyOf o (a .supplied) (a .labels)) (readLabel (a .depth) (a .supplied) (now (a .bytes))) (a .at) (f .first2 .given .0 .0) (f .first2 .given .0 .1 .0) (c .before .second .given .0 .0)
+    two-labels-second (keyOf o (a .supplied) (a .labels)) (readLabel (a .depth) (a .supplied) (now (a .bytes))) (a .at)
+    (f .first2 .given .0 .0) (f .first2 .given .0 .1 .0) (c .before .second .given .0 .0)
     (sym (f .before .before .read-label .ensures o) ∙ f .first2 .given .1) (sym (r .read-label2 .ensures o) ∙ c .before .second .given .1))
     -- returns-3: neither
     (λ c. λ o.
     let r = c .before .before .before in
     let f = r .before .before in
     let a = f .before .before .before .before .args in
-    two-labels-both (keyOf o (a .supplied) (a .labels)) (readLabel (a .depth) (a .supplied) (now (a .bytes))) (a .at) (f .first2 .given .0 .0) (c .before .second2 .given .0 .0) (f .first2 .given .0 .1 .0) (c .before .second2 .given .0 .1 .0)
-    (sym (f .before .before .read-label .ensures o) ∙ f .first2 .given .1) (sym (r .read-label2 .ensures o) ∙ c .before .second2 .given .1)))
+    two-labels-both (keyOf o (a .supplied) (a .labels)) (readLabel (a .depth) (a .supplied) (now (a .bytes))) (a .at)
+    (f .first2 .given .0 .0) (c .before .second2 .given .0 .0) (f .first2 .given .0 .1 .0) (c .before .second2 .given .0 .1 .0)
+    (sym (f .before .before .read-label .ensures o) ∙ f .first2 .given .1)
+    (sym (r .read-label2 .ensures o) ∙ c .before .second2 .given .1)))

@@ -172,19 +172,29 @@ add-kernel c =
     record { fits = steps-fit (head (found e) .loop .inv .2) (adds-few e) (start (found e) .pre .1) (below e) }
 
 same-length : tie.Need-same-length Inv-loop μ-loop
-same-length c = same (c .before .before .before .before .before .before .before .before) .stack
+same-length c =
+    let at-emit = c .before .before .before .before .before .before .before .before in
+    same at-emit .stack
 
 same-length-2 : tie.Need-same-length-2 Inv-loop μ-loop
-same-length-2 c = same (c .before .before .before .before .before .before .before .before) .values
+same-length-2 c =
+    let at-emit = c .before .before .before .before .before .before .before .before in
+    same at-emit .values
 
 same-length-3 : tie.Need-same-length-3 Inv-loop μ-loop
-same-length-3 c = same (c .before .before .before .before .before .before .before .before) .labels
+same-length-3 c =
+    let at-emit = c .before .before .before .before .before .before .before .before in
+    same at-emit .labels
 
 same-length-4 : tie.Need-same-length-4 Inv-loop μ-loop
-same-length-4 c = same (c .before .before .before .before .before .before .before .before) .numbers
+same-length-4 c =
+    let at-emit = c .before .before .before .before .before .before .before .before in
+    same at-emit .numbers
 
 same-length-5 : tie.Need-same-length-5 Inv-loop μ-loop
-same-length-5 c = same (c .before .before .before .before .before .before .before .before) .lineLabels
+same-length-5 c =
+    let at-emit = c .before .before .before .before .before .before .before .before in
+    same at-emit .lineLabels
 
 returns : tie.Need-returns Inv-loop μ-loop
 returns c =
@@ -208,19 +218,29 @@ loop-again c =
     )
 
 same-length-6 : tie.Need-same-length-6 Inv-loop μ-loop
-same-length-6 c = c .before .before .before .before .before .before .loop .inv .1 .stack
+same-length-6 c =
+    let at-loop = c .before .before .before .before .before .before in
+    at-loop .loop .inv .1 .stack
 
 same-length-7 : tie.Need-same-length-7 Inv-loop μ-loop
-same-length-7 c = c .before .before .before .before .before .before .loop .inv .1 .values
+same-length-7 c =
+    let at-loop = c .before .before .before .before .before .before in
+    at-loop .loop .inv .1 .values
 
 same-length-8 : tie.Need-same-length-8 Inv-loop μ-loop
-same-length-8 c = c .before .before .before .before .before .before .loop .inv .1 .labels
+same-length-8 c =
+    let at-loop = c .before .before .before .before .before .before in
+    at-loop .loop .inv .1 .labels
 
 same-length-9 : tie.Need-same-length-9 Inv-loop μ-loop
-same-length-9 c = c .before .before .before .before .before .before .loop .inv .1 .numbers
+same-length-9 c =
+    let at-loop = c .before .before .before .before .before .before in
+    at-loop .loop .inv .1 .numbers
 
 same-length-10 : tie.Need-same-length-10 Inv-loop μ-loop
-same-length-10 c = c .before .before .before .before .before .before .loop .inv .1 .lineLabels
+same-length-10 c =
+    let at-loop = c .before .before .before .before .before .before in
+    at-loop .loop .inv .1 .lineLabels
 
 returns-2 : tie.Need-returns-2 Inv-loop μ-loop
 returns-2 c =

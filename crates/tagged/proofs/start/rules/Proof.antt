@@ -11,7 +11,8 @@ returns c =
     let k = c .before .before .before .before in
     let a = k .before .before .before .args in
     found-accepted (now (a .table)) (a .cache .words) (a .words) (k .before .inspect .result) (k .before .inspect .ensures)
-    (k .kept-if .result) (k .kept-if .ensures) (c .before .instructions .result) (c .kept-if2 .result) (c .before .before .enum-told .given .1)
+    (k .kept-if .result) (k .kept-if .ensures) (c .before .instructions .result) (c .kept-if2 .result)
+    (c .before .before .enum-told .given .1)
     (c .before .instructions .ensures) (c .kept-if2 .ensures)
 
 returns-2 : tie.Need-returns-2

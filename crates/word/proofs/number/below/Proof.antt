@@ -36,15 +36,24 @@ returns-4 : tie.Need-returns-4
 unfolding indexOf
 returns-4 c =
     let call = c .before .before .before .before in
-    rw (← (rw (back (call .before .before .fits .word)) at (call .unsigned .ensures)), c .before .before .number .given .1, lt-ltb _ _ (c .if3 .taken))
+    rw (
+      ← (rw (back (call .before .before .fits .word)) at (call .unsigned .ensures)),
+      c .before .before .number .given .1,
+      lt-ltb _ _ (c .if3 .taken),
+    )
 
 returns-5 : tie.Need-returns-5
 unfolding indexOf
 returns-5 c =
     let call = c .before .before .before .before in
-    rw (← (rw (back (call .before .before .fits .word)) at (call .unsigned .ensures)), c .before .before .number .given .1, le-ltb _ _ (c .if3 .left))
+    rw (
+      ← (rw (back (call .before .before .fits .word)) at (call .unsigned .ensures)),
+      c .before .before .number .given .1,
+      le-ltb _ _ (c .if3 .left),
+    )
 
 pub below-spec : {M : Type 1} → statement M
 below-spec =
     tie.close
-    (tie.spec (λ c κs. search needs) returns returns-2 (λ c κs. search needs) (λ c. search needs) (λ c. search needs) returns-3 returns-4 returns-5)
+    (tie.spec (λ c κs. search needs) returns returns-2 (λ c κs. search needs) (λ c. search needs)
+    (λ c. search needs) returns-3 returns-4 returns-5)

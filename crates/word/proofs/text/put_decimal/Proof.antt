@@ -39,6 +39,7 @@ same-length c = c .before .out .given ∙ simp length-set
 
 returns : tie.Need-returns
 returns c =
+    let at-if1 = c .before .before .before .before .before .before in
     let start = c .before .before .before .before .before .before .before .before .before .before in
     let a = start .args in
     let same = back (start .fits .n) in
@@ -46,7 +47,7 @@ returns c =
     let count = c .before .before .before .before .before .before .before .digit-count in
     let said =
     decimal-negative (a .n) (size .result) (count .result) (rw same at (size .ensures)) (count .ensures)
-    (rw same at (c .before .before .before .before .before .before .if1 .taken)) in
+    (rw same at (at-if1 .if1 .taken)) in
     let put =
     put-cons (a .at) (count .result) 45 (numeral 10 (count .result) (size .result)) (a .out .now)
     (numeral-length 10 (count .result) (size .result))
