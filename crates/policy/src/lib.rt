@@ -24,6 +24,7 @@ pub enum Token {
     Nothing,
 }
 
+// What a byte of a rule table stands for.
 pub fn token_of(byte: u8) -> Token
     ensures { λ r. ⌜ r ≡ tokenOf byte ⌝ }
 {

@@ -35,6 +35,7 @@ impl Cache {
         self
     }
 
+    // Seven zeros.
     pub fn is_empty(self) -> bool
         ensures { λ r. ⌜ r ≡ emptyRow (self .words) ⌝ }
     {

@@ -117,6 +117,7 @@ pub struct Stepped {
     pub label: Label,
 }
 
+// Stopped with this number; no line.
 pub fn stopped(machine: Machine, stop: u64) -> Stepped
     ensures { λ r. ⌜ r ≡ outcome machine stop ⌝ }
 {
@@ -128,12 +129,14 @@ pub fn stopped(machine: Machine, stop: u64) -> Stepped
     }
 }
 
+// Carried out; no line.
 pub fn carried(machine: Machine) -> Stepped
     ensures { λ r. ⌜ r ≡ outcome machine carriedOut ⌝ }
 {
     stopped(machine, CARRIED)
 }
 
+// Carried out, but for the line with this number and label.
 pub fn printing(machine: Machine, number: i64, label: Label) -> Stepped
     ensures { λ r. ⌜ r ≡ printing machine number (label .0) ⌝ }
 {

@@ -44,6 +44,7 @@ pub fn arith(place: Label, result: Label, m: Machine, code: u64, stack: &mut [i6
     stack::carried(over.following(place))
 }
 
+// Pop: one entry less.
 pub fn pop(place: Label, m: Machine) -> Stepped
     ensures { λ r. ⌜ r ≡ popEffect (place .0) m ⌝ }
 {
@@ -122,6 +123,7 @@ pub fn jump(place: Label, m: Machine, stack: &[i64]) -> Stepped
     stack::carried(m.drop().goto(Pc(a.number), place))
 }
 
+// Bnz: by the operand where the number on top is not 0, else to the next place.
 pub fn bnz(place: Label, m: Machine, operand: i64, stack: &[i64]) -> Stepped
     ensures { λ r. ⌜ r ≡ bnzEffect (place .0) m operand (now (stack .entry)) ⌝ }
 {

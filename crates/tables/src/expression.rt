@@ -78,6 +78,7 @@ fn leaf_of(token: Token, supplied: usize, labels: Labels) -> Leaf
     }
 }
 
+// What a token starts where a condition is to stand.
 pub fn test_of(token: Token) -> Test
     ensures { λ r. ⌜ r ≡ testOf token ⌝ }
 {

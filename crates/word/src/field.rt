@@ -12,24 +12,28 @@ pub enum Field {
     Cut,
 }
 
+// A signed number of two bytes, low byte first, at an offset; where the bytes end before it, it is cut. So the others, of their widths.
 pub fn i16_at(s: &[u8], at: usize) -> Field
     ensures { λ r. ⌜ r ≡ signedAt 2 (now (s .entry)) at ⌝ }
 {
     signed_at(s, at, 2)
 }
 
+// Of four bytes.
 pub fn i32_at(s: &[u8], at: usize) -> Field
     ensures { λ r. ⌜ r ≡ signedAt 4 (now (s .entry)) at ⌝ }
 {
     signed_at(s, at, 4)
 }
 
+// Of eight bytes.
 pub fn i64_at(s: &[u8], at: usize) -> Field
     ensures { λ r. ⌜ r ≡ signedAt 8 (now (s .entry)) at ⌝ }
 {
     signed_at(s, at, 8)
 }
 
+// An unsigned number of four bytes.
 pub fn u32_at(s: &[u8], at: usize) -> Field
     ensures { λ r. ⌜ r ≡ unsignedAt 4 (now (s .entry)) at ⌝ }
 {

@@ -8,6 +8,7 @@ pub enum Natural {
     Negative,
 }
 
+// A word as a number that is not negative.
 pub fn unsigned(word: i64) -> Natural
     ensures { λ r. ⌜ r ≡ naturalOf word ⌝ }
 {
@@ -24,6 +25,7 @@ pub enum Index {
     Outside,
 }
 
+// A word as an index below a bound; a negative one is outside.
 pub fn below(word: i64, bound: usize) -> Index
     ensures { λ r. ⌜ r ≡ indexOf word bound ⌝ }
 {
