@@ -9,6 +9,7 @@ use lib.IntN.{ℤ, pos, negsuc}
 use lib.Dec.{leb, ltb}
 use lib.ListN.{replicate}
 use borrow.Author.Tests.{lt-ltb, eqb-true, eq-eqb}
+use Rattle.word.specs.Number.{isZero}
 use Rattle.label.specs.Label.{principals, InRange}
 use Rattle.label.specs.declared.Stored.{Stored}
 use Rattle.label.specs.declared.Stored.the-variants as Stored
@@ -19,7 +20,7 @@ use Rattle.machine.specs.Rule.{Input, present, missing, inputWord, Key, Verdict
 use Rattle.machine.specs.Holds.{Marked, WellMarked}
 use Rattle.policy.specs.Expression.{Table}
 use Rattle.policy.specs.Evaluate.{evaluate}
-use Rattle.policy.specs.Row.{isZero, emptyRow, inputOf, presentOf, labelOption, given, holds, rowKey, isStored, agrees}
+use Rattle.policy.specs.Row.{emptyRow, inputOf, presentOf, labelOption, given, holds, rowKey, isStored, agrees}
 use Rattle.policy.specs.Row.{acceptedRow, keyRow}
 
 -- ════════════════════════════════════════════════════════════════════════════════════════════

@@ -13,16 +13,12 @@ use lib.Seq.{drop-cons}
 use borrow.Author.Tests.{ne-eqb}
 use mir.Syntax.{w64}
 use mir.Val.{SFits, ofZ}
-use Rattle.policy.specs.Row.{isZero, isMark, emptyRow, word}
+use Rattle.word.specs.Number.{isZero}
+use Rattle.policy.specs.Row.{isMark, emptyRow, word}
 
 -- ════════════════════════════════════════════════════════════════════════════════════════════
 -- Words
 -- ════════════════════════════════════════════════════════════════════════════════════════════
-
-pub zero-test : (z : ℤ) → SFits w64 z → eqb (ofZ w64 z) 0 ≡ isZero z
-zero-test (pos zero) f = refl
-zero-test (pos (suc n)) f = ne-eqb (suc n) 0 (λ e. omega arith)
-zero-test (negsuc n) f = ne-eqb (ofZ w64 (negsuc n)) 0 (λ e. let h = f .sfits in omega arith)
 
 pub mark-test : (z : ℤ) → SFits w64 z → eqb (ofZ w64 z) 18446744073709551615 ≡ isMark z
 mark-test (pos n) f = ne-eqb n 18446744073709551615 (λ e. let h = f .sfits in omega arith)

@@ -8,7 +8,7 @@ use lib.Dec.{leb, eqb}
 use lib.ListN.{getD}
 use Rattle.word.specs.declared.number.Natural.{Natural}
 use Rattle.word.specs.declared.number.Natural.the-variants as Natural
-use Rattle.word.specs.Number.{naturalOf}
+use Rattle.word.specs.Number.{isZero, naturalOf}
 use Rattle.label.specs.declared.Stored.{Stored}
 use Rattle.label.specs.declared.Stored.the-variants as Stored
 use Rattle.label.specs.Word.{stored}
@@ -17,11 +17,6 @@ use Rattle.machine.specs.Rule.{Input, present, missing, inputWord, Key, Verdict
 use Rattle.policy.specs.Expression.{Table}
 use Rattle.policy.specs.Evaluate.{evaluate}
 use Rattle.policy.specs.Read.{ReadTable, refused, table}
-
-abbrev pub isZero : ℤ → Bool
-isZero (pos zero) = true
-isZero (pos (suc n)) = false
-isZero (negsuc n) = false
 
 -- seven zeros mean empty
 abbrev pub emptyRow : List ℤ → Bool

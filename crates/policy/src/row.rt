@@ -2,7 +2,8 @@
 ghost use mathlib.Core.Path.{_≡_};
 ghost use lib.IntN.{pos};
 ghost use lib.ListN.{getD, set, replicate};
-ghost use Rattle.policy.specs.Row.{isZero, emptyRow};
+ghost use Rattle.word.specs.Number.{isZero};
+ghost use Rattle.policy.specs.Row.{emptyRow};
 
 // The rule memory: code, P, L1, L2, L3, new place label, result label.
 pub struct Cache {

@@ -1,2 +1,1 @@
-pub mod Zero
 pub mod Calling

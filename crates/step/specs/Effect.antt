@@ -1,14 +1,13 @@
 -- What a command does on lent words, with the new place label p and the result label r of a ruling.
 use Prim.Native.Nat.{ℕ}
-use mathlib.Core.Bool.{Bool, false}
 use mathlib.Core.List.{List}
-use lib.IntN.{ℤ, pos, negsuc}
+use lib.IntN.{ℤ, pos}
 use lib.ListN.{length, getD, set}
 use lib.Dec.{ltb, eqb}
 use Rattle.word.specs.Choose.{choose}
 use Rattle.word.specs.declared.number.Index.{Index}
 use Rattle.word.specs.declared.number.Index.the-variants.{At, Outside}
-use Rattle.word.specs.Number.{indexOf}
+use Rattle.word.specs.Number.{isZero, indexOf}
 use Rattle.word.specs.Wrap.{addWrap, subWrap}
 use Rattle.stack.specs.declared.Machine.{Machine}
 use Rattle.stack.specs.declared.Stepped.{Stepped}
@@ -19,10 +18,6 @@ use Rattle.step.specs.Find.{first, second}
 -- Add has code 1, Sub 2
 unfoldable pub sumOf : ℕ → ℤ → ℤ → ℤ
 sumOf code a b = choose (eqb code 1) (addWrap a b) (subWrap a b)
-
-abbrev pub isZero : ℤ → Bool
-isZero (pos n) = eqb n 0
-isZero (negsuc n) = false
 
 -- Bnz's target
 unfoldable pub branchOf : ℤ → ℤ → ℤ → ℤ

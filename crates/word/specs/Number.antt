@@ -1,5 +1,5 @@
--- A word as a natural number, and as an index below a bound.
-use Prim.Native.Nat.{ℕ}
+-- A word as a natural number, as an index below a bound, and whether it is 0.
+use Prim.Native.Nat.{ℕ, zero, suc}
 use mathlib.Core.Bool.{Bool, true, false}
 use lib.IntN.{ℤ, pos, negsuc}
 use lib.Dec.{ltb}
@@ -7,6 +7,11 @@ use Rattle.word.specs.declared.number.Natural.{Natural}
 use Rattle.word.specs.declared.number.Natural.the-variants.{Of, Negative}
 use Rattle.word.specs.declared.number.Index.{Index}
 use Rattle.word.specs.declared.number.Index.the-variants.{At, Outside}
+
+abbrev pub isZero : ℤ → Bool
+isZero (pos zero) = true
+isZero (pos (suc n)) = false
+isZero (negsuc n) = false
 
 abbrev pub naturalOf : ℤ → Natural
 naturalOf (pos n) = Of n

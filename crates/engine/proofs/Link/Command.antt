@@ -8,7 +8,7 @@ use native.Mathlib.Omega.{arith}
 use native.Mathlib.Numerals.{add-one}
 use lib.IntN.{ℤ, pos, negsuc, _+ℤ_}
 use lib.ListN.{length, length-append, length-map}
-use lib.Dec.{ltb, eqb·suc-zero}
+use lib.Dec.{ltb}
 use borrow.Author.Tests.{ltb-true}
 use Rattle.word.specs.Wrap.{Signed, addWrap, subWrap}
 use Rattle.program.specs.declared.Command.{Command}
@@ -39,7 +39,7 @@ use Rattle.engine.proofs.Link.Looks.{found, effect, Looks}
 branch-is : (n pc operand : ℤ) → Signed 64 (pc +ℤ pos 1) → Signed 64 (pc +ℤ operand) → branchOf n pc operand ≡ branch n pc operand
 unfolding branchOf
 branch-is (pos zero) pc operand on to = addWrap-id pc (pos 1) on
-branch-is (pos (suc n)) pc operand on to = rw eqb·suc-zero (addWrap-id pc operand to)
+branch-is (pos (suc n)) pc operand on to = addWrap-id pc operand to
 branch-is (negsuc n) pc operand on to = addWrap-id pc operand to
 
 module _ {room : ℕ} {o₀ : Memory.Output} {s : State} {l : Lent} {o : Memory.Output} (r : Represents o₀ s (machineOf s) l o)

@@ -1,6 +1,6 @@
 -- `policy::row::is_zero` meets its contract.
 -- Assumes nothing.
-use Rattle.policy.proofs.Rows.{zero-test}
+use Rattle.word.proofs.Signed.{zero-test}
 use Rattle.policy.proofs.row.is_zero.Statement.{statement}
 use Rattle.policy.proofs.row.is_zero.Tie as tie
 

@@ -1,8 +1,7 @@
 -- `step::effect::branch` meets its contract.
 -- Assumes nothing.
-use Rattle.word.proofs.Signed.{back}
+use Rattle.word.proofs.Signed.{back, zero-is, zero-not}
 use Rattle.step.specs.Effect.{branchOf}
-use Rattle.step.proofs.Zero.{zero-is, zero-not}
 use borrow.Author.Needs.{needs}
 use Rattle.step.proofs.effect.branch.Statement.{statement}
 use Rattle.step.proofs.effect.branch.Tie as tie
@@ -20,7 +19,7 @@ returns-2 c =
     let at-if = c .before in
     let start = at-if .before in
     rw (
-      zero-not (start .args .number) (at-if .if1 .left),
+      zero-not (start .args .number) (start .fits .number) (at-if .if1 .left),
       c .offset2 .ensures,
       back {z = start .args .operand} (start .fits .operand),
     )

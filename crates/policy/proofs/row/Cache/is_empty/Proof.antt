@@ -5,7 +5,7 @@ use Prim.Native.Nat.{_-_}
 use native.Mathlib.Omega.{arith}
 use borrow.Author.Needs.{needs}
 use Rattle.word.proofs.Signed.{back-ok}
-use Rattle.policy.specs.Row.{isZero}
+use Rattle.word.specs.Number.{isZero}
 use Rattle.policy.proofs.Rows.{Emptying, emptying-start, emptying-next, emptying-stop, emptying-end}
 use Rattle.policy.proofs.row.Cache.is_empty.Statement.{statement}
 use Rattle.policy.proofs.row.Cache.is_empty.Tie as tie
