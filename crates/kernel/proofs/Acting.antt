@@ -8,7 +8,7 @@ use Prim.Native.Nat.{ℕ, zero, suc, _+_, _-_, _%_, _^_, _<_, _≤_}
 use native.Mathlib.Nat.{mod-eq-of-lt}
 use native.Mathlib.Omega.{arith}
 use lib.IntN.{ℤ, pos, negsuc, _+ℤ_}
-use lib.ListN.{length, getD, set, getElem?, length-set}
+use lib.ListN.{length, getD, set, getElem?}
 use lib.Seq.{set-out}
 use mir.Syntax.{w64}
 use mir.Val.{SFits}
@@ -16,38 +16,40 @@ use lib.Dec.{ltb, eqb, eqb·suc-zero}
 use borrow.Author.Tests.{lt-ltb, le-ltb, ltb-true, ltb-false, eqb-true, eqb-false}
 use Rattle.word.specs.declared.number.Index.{Index}
 use Rattle.word.specs.declared.number.Index.the-variants as Index
-use Rattle.word.specs.Number.{indexIf, indexOf}
+use Rattle.word.specs.Number.{isZero, indexIf, indexOf}
 use Rattle.word.specs.Wrap.{residue, addWrap, subWrap}
 use Rattle.word.proofs.Bits.{index-found}
+use Rattle.word.proofs.Bool.{never}
 use Rattle.machine.specs.Step.{branch}
 use Rattle.kernel.specs.declared.Whole.the-variants as Whole
 use Rattle.kernel.specs.declared.How.the-variants as How
+use Rattle.kernel.specs.declared.Spot.{Spot}
 use Rattle.kernel.specs.declared.Stepped.{Stepped}
 use Rattle.handler.specs.Kernel.{Instruction, Add, Sub, Or, Load, Store, Dup, Swap, Jump, Ret, Push, Bnz}
 use Rattle.handler.specs.Kernel.{Effect, ends, goes, failed, withValues, withWord, provided, pushing, jumping, effect, orWord}
 use Rattle.handler.specs.Space.{codeOf, known}
 use Rattle.handler.proofs.Space.{unknown-code}
 use Rattle.word.specs.Choose.{choose}
-use Rattle.kernel.specs.Words.{stackOf, wholeOf, ending, going, effectOf, DoesOn, Does, Acts, folding, combined, jumpingTo, branching}
-use Rattle.kernel.proofs.Words.{stack-length, stack-push, value-one, value-none, values-two, values-none}
+use Rattle.kernel.specs.Words.{topped, stackOf, spot, below, moved, wholeOf, ending, going, effectOf}
+use Rattle.kernel.specs.Words.{DoesOn, Does, Acts, folding, combined, jumpingTo, branching}
+use Rattle.kernel.proofs.Words.{lying-set, lying-topped, topped-at, topped-push, stack-length, below-stack}
+use Rattle.kernel.proofs.Words.{value-one, value-none, values-two, values-none}
 
 -- ════════════════════════════════════════════════════════════════════════════════════════════
 -- Going on
 -- ════════════════════════════════════════════════════════════════════════════════════════════
 
 -- no word of the row changes
-pub going-effect : (p d : ℕ) (st row : List ℤ) → length row ≡ 7 → effectOf (going p d) st row ≡ goes p (stackOf st d) row
-going-effect p d st row h = ap (λ (w : List ℤ). goes p (stackOf st d) w) (set-out row 7 (pos 0) (omega arith))
+pub going-effect : (s : Spot) (w row : List ℤ) → length row ≡ 7 → effectOf (going s) w row ≡ goes (s .place) (stackOf s w) row
+going-effect s w row h = ap (λ (x : List ℤ). goes (s .place) (stackOf s w) x) (set-out row 7 (pos 0) (omega arith))
 
 -- at the next place
-pub going-next : (p d : ℕ) (st row s : List ℤ) → length row ≡ 7 → stackOf st d ≡ s → effectOf (going (p + 1) d) st row ≡ goes (suc p) s row
-going-next p d st row s h e =
+going-next : (p d : ℕ) (top : ℤ) (w row t : List ℤ) → length row ≡ 7 → topped top d w ≡ t
+    → effectOf (going (spot (p + 1) d top)) w row ≡ goes (suc p) t row
+unfolding stackOf
+going-next p d top w row t h e =
     let q : p + 1 ≡ suc p = omega arith in
-    going-effect (p + 1) d st row h ∙ ap₂ (λ (n : ℕ) (t : List ℤ). goes n t row) q e
-
--- one entry written on top of d − k others
-stack-at : (st : List ℤ) (d e : ℕ) (a : ℤ) → e < length st → d ≡ e + 1 → stackOf (set st e a) d ≡ a ∷ stackOf st e
-stack-at st d e a h q = ap (stackOf (set st e a)) q ∙ stack-push st e a h
+    going-effect (spot (p + 1) d top) w row h ∙ ap₂ (λ (n : ℕ) (x : List ℤ). goes n x row) q e
 
 -- ════════════════════════════════════════════════════════════════════════════════════════════
 -- Add, Sub, Or
@@ -64,52 +66,54 @@ folding-effect code place s row = by (eqb code (codeOf Add)) (eqb code (codeOf S
     by false true = refl
     by false false = refl
 
-module _ (place d : ℕ) (st : List ℤ) where
-  pub fold-none : (code : ℕ) (st′ : List ℤ) → d < 2 → Does (folding code) place d st (ending How.Failed) st′
+module _ (s : Spot) (w : List ℤ) where
+  pub fold-none : (code : ℕ) (w′ : List ℤ) → s .depth < 2 → Does (folding code) s w (ending How.Failed) w′
   unfolding Does DoesOn
-  fold-none code st′ h row e = sym (folding-effect code place (stackOf st d) row ∙ values-none st d _ h)
+  fold-none code w′ h row e = sym (folding-effect code (s .place) (stackOf s w) row ∙ values-none s w _ h)
 
-  pub fold-done : (code : ℕ) → 2 ≤ d → d ≤ 64 → length st ≡ 64
-      → Does (folding code) place d st (going (place + 1) (d - 1))
-      (set st (d - 2) (combined code (getD st (d - 1) (pos 0)) (getD st (d - 2) (pos 0))))
+  pub fold-done : (code : ℕ) → 2 ≤ s .depth
+      → Does (folding code) s w (going (spot (s .place + 1) (s .depth - 1) (combined code (s .top) (getD w (s .depth - 1) (pos 0))))) w
   unfolding Does DoesOn
-  fold-done code h l g row e =
-      going-next place (d - 1) _ row _ e (stack-at st (d - 1) (d - 2) _ (omega arith) (omega arith))
-      ∙ sym (folding-effect code place (stackOf st d) row ∙ values-two st d _ h)
+  fold-done code h row e =
+      going-next (s .place) (s .depth - 1) _ w row _ e (topped-at w _ (s .depth - 1) (s .depth - 2) (omega arith))
+      ∙ sym (folding-effect code (s .place) (stackOf s w) row ∙ values-two s w _ h)
 
   -- ════════════════════════════════════════════════════════════════════════════════════════════
   -- Push, Dup, Swap
   -- ════════════════════════════════════════════════════════════════════════════════════════════
 
-  pub push-full : (a : ℤ) (st′ : List ℤ) → 64 ≤ d → Does (Push a) place d st (ending How.Failed) st′
+  pub push-full : (a : ℤ) (w′ : List ℤ) → 64 ≤ s .depth → Does (Push a) s w (ending How.Failed) w′
   unfolding Does DoesOn effect
-  push-full a st′ h row e = rw (stack-length st d, le-ltb d 64 h)
+  push-full a w′ h row e = rw (stack-length s w, le-ltb (s .depth) 64 h)
 
-  pub push-done : (a : ℤ) → d < 64 → length st ≡ 64 → Does (Push a) place d st (going (place + 1) (d + 1)) (set st d a)
-  unfolding Does DoesOn effect
+  pub push-done : (a : ℤ) → s .depth < 64 → length w ≡ 64
+      → Does (Push a) s w (going (spot (s .place + 1) (s .depth + 1) a)) (set w (s .depth) (s .top))
+  unfolding Does DoesOn effect stackOf
   push-done a h g row e =
-      rw (stack-length st d, lt-ltb d 64 h) (going-next place (d + 1) (set st d a) row _ e (stack-push st d a (omega arith)))
+      rw (stack-length s w, lt-ltb (s .depth) 64 h)
+      (going-next (s .place) (s .depth + 1) a _ row _ e (topped-push w (s .top) a (s .depth) (omega arith)))
 
-  pub dup-none : (st′ : List ℤ) → d < 1 → Does Dup place d st (ending How.Failed) st′
+  pub dup-none : (w′ : List ℤ) → s .depth < 1 → Does Dup s w (ending How.Failed) w′
   unfolding Does DoesOn effect
-  dup-none st′ h row e = sym (value-none st d _ h)
+  dup-none w′ h row e = sym (value-none s w _ h)
 
-  pub dup-done : (r : Stepped) (st′ : List ℤ) → 1 ≤ d → Does (Push (getD st (d - 1) (pos 0))) place d st r st′ → Does Dup place d st r st′
+  pub dup-done : (r : Stepped) (w′ : List ℤ) → 1 ≤ s .depth → Does (Push (s .top)) s w r w′ → Does Dup s w r w′
   unfolding Does DoesOn effect
-  dup-done r st′ h k row e = k row e ∙ sym (value-one st d (λ a rest. pushing place a (stackOf st d) row) h)
+  dup-done r w′ h k row e = k row e ∙ sym (value-one s w (λ a rest. pushing (s .place) a (stackOf s w) row) h)
 
-  pub swap-none : (st′ : List ℤ) → d < 2 → Does Swap place d st (ending How.Failed) st′
+  pub swap-none : (w′ : List ℤ) → s .depth < 2 → Does Swap s w (ending How.Failed) w′
   unfolding Does DoesOn effect
-  swap-none st′ h row e = sym (values-none st d _ h)
+  swap-none w′ h row e = sym (values-none s w _ h)
 
-  pub swap-done : 2 ≤ d → d ≤ 64 → length st ≡ 64
-      → Does Swap place d st (going (place + 1) d) (set (set st (d - 2) (getD st (d - 1) (pos 0))) (d - 1) (getD st (d - 2) (pos 0)))
+  pub swap-done : 2 ≤ s .depth → s .depth ≤ 64 → length w ≡ 64
+      → Does Swap s w (going (spot (s .place + 1) (s .depth) (getD w (s .depth - 1) (pos 0)))) (set w (s .depth - 1) (s .top))
   unfolding Does DoesOn effect
   swap-done h l g row e =
-      going-next place d _ row _ e
-      (stack-at (set st (d - 2) (getD st (d - 1) (pos 0))) d (d - 1) _ (rw length-set (omega arith)) (omega arith)
-      ∙ ap (λ (xs : List ℤ). getD st (d - 2) (pos 0) ∷ xs) (stack-at st (d - 1) (d - 2) _ (omega arith) (omega arith)))
-      ∙ sym (values-two st d _ h)
+      going-next (s .place) (s .depth) _ _ row _ e
+      (topped-at (set w (s .depth - 1) (s .top)) _ (s .depth) (s .depth - 1) (omega arith)
+      ∙ ap (λ (xs : List ℤ). getD w (s .depth - 1) (pos 0) ∷ xs)
+      (lying-set w (s .depth - 1) (s .depth - 2) (s .top) (omega arith) (omega arith)))
+      ∙ sym (values-two s w _ h)
 
 -- ════════════════════════════════════════════════════════════════════════════════════════════
 -- Load and Store
@@ -139,127 +143,126 @@ word-out row (pos n) k h e = by (ltb n 7) refl e
     by false t f = rw (element-none row n (omega (arith, ltb-false n 7 t)))
 word-out row (negsuc n) k h e = refl
 
-module _ (place d : ℕ) (st : List ℤ) where
-  pub load-none : (row st′ : List ℤ) → d < 1 → DoesOn row Load place d st (ending How.Failed) st′
+module _ (s : Spot) (w : List ℤ) where
+  pub load-none : (row : List ℤ) → s .depth < 1 → DoesOn row Load s w (ending How.Failed) w
   unfolding DoesOn effect
-  load-none row st′ h = sym (value-none st d _ h)
+  load-none row h = sym (value-none s w _ h)
 
-  pub load-out : (row st′ : List ℤ) → 1 ≤ d → length row ≡ 7 → indexOf (getD st (d - 1) (pos 0)) 7 ≡ Index.Outside
-      → DoesOn row Load place d st (ending How.Failed) st′
+  pub load-out : (row : List ℤ) → 1 ≤ s .depth → length row ≡ 7 → indexOf (s .top) 7 ≡ Index.Outside
+      → DoesOn row Load s w (ending How.Failed) w
   unfolding DoesOn effect
-  load-out row st′ h e o = sym (value-one st d _ h ∙ word-out row _ _ e o)
+  load-out row h e o = sym (value-one s w _ h ∙ word-out row _ _ e o)
 
-  pub load-done : (row : List ℤ) (i : ℕ) → 1 ≤ d → d ≤ 64 → length st ≡ 64 → length row ≡ 7
-      → indexOf (getD st (d - 1) (pos 0)) 7 ≡ Index.At i
-      → DoesOn row Load place d st (going (place + 1) d) (set st (d - 1) (getD row i (pos 0)))
+  pub load-done : (row : List ℤ) (i : ℕ) → 1 ≤ s .depth → length row ≡ 7 → indexOf (s .top) 7 ≡ Index.At i
+      → DoesOn row Load s w (going (spot (s .place + 1) (s .depth) (getD row i (pos 0)))) w
   unfolding DoesOn effect
-  load-done row i h l g e o =
-      going-next place d _ row _ e (stack-at st d (d - 1) _ (omega arith) (omega arith))
-      ∙ sym (value-one st d _ h ∙ word-in row _ i _ e o)
+  load-done row i h e o =
+      going-next (s .place) (s .depth) _ w row _ e (topped-at w _ (s .depth) (s .depth - 1) (omega arith))
+      ∙ sym (value-one s w _ h ∙ word-in row _ i _ e o)
 
-  pub store-none : (st′ : List ℤ) → d < 2 → Does Store place d st (ending How.Failed) st′
+  pub store-none : (w′ : List ℤ) → s .depth < 2 → Does Store s w (ending How.Failed) w′
   unfolding Does DoesOn effect
-  store-none st′ h row e = sym (values-none st d _ h)
+  store-none w′ h row e = sym (values-none s w _ h)
 
-  pub store-out : (st′ : List ℤ) → 2 ≤ d → indexOf (getD st (d - 1) (pos 0)) 7 ≡ Index.Outside
-      → Does Store place d st (ending How.Failed) st′
+  pub store-out : (w′ : List ℤ) → 2 ≤ s .depth → indexOf (s .top) 7 ≡ Index.Outside → Does Store s w (ending How.Failed) w′
   unfolding Does DoesOn effect
-  store-out st′ h o row e = sym (values-two st d _ h ∙ word-out row _ _ e o)
+  store-out w′ h o row e = sym (values-two s w _ h ∙ word-out row _ _ e o)
 
-  pub store-done : (i : ℕ) → 2 ≤ d → indexOf (getD st (d - 1) (pos 0)) 7 ≡ Index.At i
-      → Does Store place d st (record { how = How.Goes; place = place + 1; depth = d - 2; address = i; word = getD st (d - 2) (pos 0) }) st
-  unfolding Does DoesOn effect
+  -- without the two topmost entries
+  abbrev pub storing : ℕ → Stepped
+  storing i =
+      record {
+        how = How.Goes;
+        at = spot (s .place + 1) (s .depth - 2) (getD w (s .depth - 2) (pos 0));
+        address = i;
+        word = getD w (s .depth - 1) (pos 0);
+      }
+
+  pub store-done : (i : ℕ) → 2 ≤ s .depth → indexOf (s .top) 7 ≡ Index.At i → Does Store s w (storing i) w
+  unfolding Does DoesOn effect stackOf
   store-done i h o row e =
-      let q : place + 1 ≡ suc place = omega arith in
-      ap (λ (n : ℕ). goes n (stackOf st (d - 2)) (set row i (getD st (d - 2) (pos 0)))) q
-      ∙ sym (values-two st d _ h ∙ word-in row _ i _ e o)
+      let q : s .place + 1 ≡ suc (s .place) = omega arith in
+      ap₂ (λ (n : ℕ) (xs : List ℤ). goes n xs (set row i (getD w (s .depth - 1) (pos 0)))) q (lying-topped w (s .depth - 2))
+      ∙ sym (values-two s w _ h ∙ word-in row _ i _ e o)
 
 -- ════════════════════════════════════════════════════════════════════════════════════════════
 -- Jump and Bnz
 -- ════════════════════════════════════════════════════════════════════════════════════════════
 
-module _ (place d : ℕ) (st row : List ℤ) (e : length row ≡ 7) where
+module _ (s : Spot) (w row : List ℤ) (e : length row ≡ 7) where
   -- where a test chooses between a place and failing
-  if-goes : (b : Bool) (n : ℕ) → effectOf (choose b (going n d) (ending How.Failed)) st row ≡ provided b (goes n (stackOf st d) row)
-  if-goes true n = going-effect n d st row e
+  if-goes : (b : Bool) (n : ℕ) → effectOf (choose b (going (moved s n)) (ending How.Failed)) w row ≡ provided b (goes n (stackOf s w) row)
+  unfolding stackOf
+  if-goes true n = going-effect (moved s n) w row e
   if-goes false n = refl
 
-  jump-effect : (z : ℤ) → effectOf (jumpingTo z place d) st row ≡ jumping place z (stackOf st d) row
-  jump-effect (pos n) = if-goes (ltb place n) n
+  jump-effect : (z : ℤ) → effectOf (jumpingTo (wholeOf z) s) w row ≡ jumping (s .place) z (stackOf s w) row
+  jump-effect (pos n) = if-goes (ltb (s .place) n) n
   jump-effect (negsuc zero) = refl
   jump-effect (negsuc (suc n)) = rw (eqb·suc-zero n)
 
-  forward : (n : ℕ) → ltb 0 n ≡ ltb place (place + n)
-  forward zero = sym (le-ltb place (place + 0) (omega arith))
-  forward (suc n) = lt-ltb 0 (suc n) (omega arith) ∙ sym (lt-ltb place (place + suc n) (omega arith))
+  forward : (p n : ℕ) → ltb 0 n ≡ ltb p (p + n)
+  forward p zero = sym (le-ltb p (p + 0) (omega arith))
+  forward p (suc n) = lt-ltb 0 (suc n) (omega arith) ∙ sym (lt-ltb p (p + suc n) (omega arith))
 
-  branch-effect : (z : ℤ) → effectOf (branching z place d) st row ≡ jumping place (pos place +ℤ z) (stackOf st d) row
-  branch-effect (pos n) = rw (forward n) (if-goes (ltb place (place + n)) (place + n))
-  branch-effect (negsuc n) = by (ltb place (suc n)) refl (eqb n place) refl
+  branch-effect : (z : ℤ) → effectOf (branching (wholeOf z) s) w row ≡ jumping (s .place) (pos (s .place) +ℤ z) (stackOf s w) row
+  branch-effect (pos n) = rw (forward (s .place) n) (if-goes (ltb (s .place) (s .place + n)) (s .place + n))
+  branch-effect (negsuc n) = by (s .place) (ltb (s .place) (suc n)) refl (eqb n (s .place)) refl
     where
-      by : (b : Bool) → ltb place (suc n) ≡ b → (x : Bool) → eqb n place ≡ x
-          → effectOf (choose x (ending How.Denied) (ending How.Failed)) st row
-          ≡ jumping place (cond b (negsuc (suc n - suc place)) (pos (place - suc n))) (stackOf st d) row
-      by true t true f = let q : suc n - suc place ≡ 0 = omega (arith, eqb-true n place f) in rw q
-      by true t false f =
-          let q : suc n - suc place ≡ suc (n - place - 1) = omega (arith, eqb-false n place f, ltb-true place (suc n) t) in
+      by : (p : ℕ) (b : Bool) → ltb p (suc n) ≡ b → (x : Bool) → eqb n p ≡ x
+          → effectOf (choose x (ending How.Denied) (ending How.Failed)) w row
+          ≡ jumping p (cond b (negsuc (suc n - suc p)) (pos (p - suc n))) (stackOf s w) row
+      by p true t true f = let q : suc n - suc p ≡ 0 = omega (arith, eqb-true n p f) in rw q
+      by p true t false f =
+          let q : suc n - suc p ≡ suc (n - p - 1) = omega (arith, eqb-false n p f, ltb-true p (suc n) t) in
           rw q
-      by false t true f = absurd (omega (arith, eqb-true n place f, ltb-false place (suc n) t))
-      by false t false f = rw (le-ltb place (place - suc n) (omega (arith, ltb-false place (suc n) t)))
-
-pub whole-at : (z : ℤ) (n : ℕ) → wholeOf z ≡ Whole.At n → z ≡ pos n
-whole-at (pos m) n e = let q : m ≡ n = cc in ap pos q
-whole-at (negsuc m) n e = absurd (let x : _≡_ {A = ℕ} 0 1 = cc in omega arith)
+      by p false t true f = absurd (omega (arith, eqb-true n p f, ltb-false p (suc n) t))
+      by p false t false f = rw (le-ltb p (p - suc n) (omega (arith, ltb-false p (suc n) t)))
 
 pub whole-small : (z : ℤ) (n : ℕ) → SFits w64 z → wholeOf z ≡ Whole.At n → n < 2 ^ 63
 whole-small (pos m) n f e = let q : m ≡ n = cc in let h = f .sfits in omega arith
 whole-small (negsuc m) n f e = absurd (let x : _≡_ {A = ℕ} 0 1 = cc in omega arith)
 
-pub whole-below : (z : ℤ) (n : ℕ) → wholeOf z ≡ Whole.Below n → z ≡ negsuc n
-whole-below (pos m) n e = absurd (let x : _≡_ {A = ℕ} 0 1 = cc in omega arith)
-whole-below (negsuc m) n e = let q : m ≡ n = cc in ap negsuc q
-
-module _ (place d : ℕ) (st : List ℤ) where
-  pub jump-none : (st′ : List ℤ) → d < 1 → Does Jump place d st (ending How.Failed) st′
+module _ (s : Spot) (w : List ℤ) where
+  pub jump-none : (w′ : List ℤ) → s .depth < 1 → Does Jump s w (ending How.Failed) w′
   unfolding Does DoesOn effect
-  jump-none st′ h row e = sym (value-none st d _ h)
+  jump-none w′ h row e = sym (value-none s w _ h)
 
-  pub jump-done : 1 ≤ d → Does Jump place d st (jumpingTo (getD st (d - 1) (pos 0)) place (d - 1)) st
+  pub jump-done : 1 ≤ s .depth → Does Jump s w (jumpingTo (wholeOf (s .top)) (below s w)) w
   unfolding Does DoesOn effect
-  jump-done h row e = jump-effect place (d - 1) st row e (getD st (d - 1) (pos 0)) ∙ sym (value-one st d _ h)
+  jump-done h row e = jump-effect (below s w) w row e (s .top) ∙ rw (below-stack s w) (sym (value-one s w _ h))
 
   module _ (z : ℤ) where
-    pub bnz-none : (st′ : List ℤ) → d < 1 → Does (Bnz z) place d st (ending How.Failed) st′
+    pub bnz-none : (w′ : List ℤ) → s .depth < 1 → Does (Bnz z) s w (ending How.Failed) w′
     unfolding Does DoesOn effect
-    bnz-none st′ h row e = sym (value-none st d _ h)
+    bnz-none w′ h row e = sym (value-none s w _ h)
 
-    bnz-target : (a target : ℤ) (r : Stepped) (row : List ℤ) → 1 ≤ d → getD st (d - 1) (pos 0) ≡ a → branch a (pos place) z ≡ target
-        → effectOf r st row ≡ jumping place target (stackOf st (d - 1)) row → DoesOn row (Bnz z) place d st r st
+    bnz-target : (target : ℤ) (r : Stepped) (row : List ℤ) → 1 ≤ s .depth → branch (s .top) (pos (s .place)) z ≡ target
+        → effectOf r w row ≡ jumping (s .place) target (stackOf (below s w) w) row → DoesOn row (Bnz z) s w r w
     unfolding DoesOn effect
-    bnz-target a target r row h q t f =
-        f ∙ sym (value-one st d (λ b rest. jumping place (branch b (pos place) z) rest row) h ∙ rw (q, t))
+    bnz-target target r row h t f =
+        f ∙ rw (below-stack s w) (sym (value-one s w (λ b rest. jumping (s .place) (branch b (pos (s .place)) z) rest row) h ∙ rw t))
 
-    pub bnz-zero : (n : ℕ) → 1 ≤ d → wholeOf (getD st (d - 1) (pos 0)) ≡ Whole.At n → n ≡ 0
-        → Does (Bnz z) place d st (going (place + 1) (d - 1)) st
-    unfolding Does DoesOn
-    bnz-zero n h w q row e =
-        bnz-target (pos 0) (pos (place + 1)) (going (place + 1) (d - 1)) row h (whole-at _ n w ∙ ap pos q) refl
-        (going-effect (place + 1) (d - 1) st row e ∙ rw (lt-ltb place (place + 1) (omega arith)))
+    pub bnz-zero : 1 ≤ s .depth → isZero (s .top) ≡ true → Does (Bnz z) s w (going (moved (below s w) (s .place + 1))) w
+    unfolding Does DoesOn stackOf
+    bnz-zero h q row e =
+        bnz-target (pos (s .place + 1)) (going (moved (below s w) (s .place + 1))) row h (by (s .top) q)
+        (going-effect (moved (below s w) (s .place + 1)) w row e ∙ rw (lt-ltb (s .place) (s .place + 1) (omega arith)))
+      where
+        by : (a : ℤ) → isZero a ≡ true → branch a (pos (s .place)) z ≡ pos (s .place + 1)
+        by (pos zero) f = refl
+        by (pos (suc n)) f = never (cc)
+        by (negsuc n) f = never (cc)
 
-    pub bnz-at : (n : ℕ) → 1 ≤ d → wholeOf (getD st (d - 1) (pos 0)) ≡ Whole.At n → (n ≡ 0 → ⊥)
-        → Does (Bnz z) place d st (branching z place (d - 1)) st
+    pub bnz-taken : 1 ≤ s .depth → isZero (s .top) ≡ false → Does (Bnz z) s w (branching (wholeOf z) (below s w)) w
     unfolding Does DoesOn
-    bnz-at zero h w q row e = absurd (q refl)
-    bnz-at (suc n) h w q row e =
-        bnz-target (pos (suc n)) (pos place +ℤ z) (branching z place (d - 1)) row h (whole-at _ (suc n) w) refl
-        (branch-effect place (d - 1) st row e z)
-
-    pub bnz-below : (n : ℕ) → 1 ≤ d → wholeOf (getD st (d - 1) (pos 0)) ≡ Whole.Below n
-        → Does (Bnz z) place d st (branching z place (d - 1)) st
-    unfolding Does DoesOn
-    bnz-below n h w row e =
-        bnz-target (negsuc n) (pos place +ℤ z) (branching z place (d - 1)) row h (whole-below _ n w) refl
-        (branch-effect place (d - 1) st row e z)
+    bnz-taken h q row e =
+        bnz-target (pos (s .place) +ℤ z) (branching (wholeOf z) (below s w)) row h (by (s .top) q) (branch-effect (below s w) w row e z)
+      where
+        by : (a : ℤ) → isZero a ≡ false → branch a (pos (s .place)) z ≡ pos (s .place) +ℤ z
+        by (pos zero) f = never (cc)
+        by (pos (suc n)) f = refl
+        by (negsuc n) f = refl
 
 -- ════════════════════════════════════════════════════════════════════════════════════════════
 -- The instruction that a code stands for
@@ -305,19 +308,19 @@ residue-known (negsuc code) n f =
     let e : code % 2 ^ 64 ≡ code = mod-eq-of-lt (omega arith) in
     rw e (past-known (2 ^ 64 - suc code) n (omega arith) (omega arith))
 
-module _ (row : List ℤ) (o : Option Instruction) (place d : ℕ) (st st′ : List ℤ) (r : Stepped) where
-  pub acts-on : (i : Instruction) → o ≡ some i → DoesOn row i place d st r st′ → Acts row o place d st r st′
+module _ (row : List ℤ) (o : Option Instruction) (s : Spot) (w w′ : List ℤ) (r : Stepped) where
+  pub acts-on : (i : Instruction) → o ≡ some i → DoesOn row i s w r w′ → Acts row o s w r w′
   unfolding DoesOn Acts
   acts-on i e h = rw e h
 
-  pub acts : (i : Instruction) → length row ≡ 7 → o ≡ some i → Does i place d st r st′ → Acts row o place d st r st′
+  pub acts : (i : Instruction) → length row ≡ 7 → o ≡ some i → Does i s w r w′ → Acts row o s w r w′
   unfolding Does DoesOn
   acts i l e h = acts-on i e (h row l)
 
-  pub acts-none : o ≡ none → r ≡ ending How.Failed → Acts row o place d st r st′
+  pub acts-none : o ≡ none → r ≡ ending How.Failed → Acts row o s w r w′
   unfolding Acts
   acts-none e f = rw (e, f)
 
-  pub acts-ret : o ≡ some Ret → r ≡ ending How.Returned → Acts row o place d st r st′
+  pub acts-ret : o ≡ some Ret → r ≡ ending How.Returned → Acts row o s w r w′
   unfolding Acts effect
   acts-ret e f = rw (e, f)

@@ -8,29 +8,26 @@ use mathlib.Core.Option.{Option, none, some}
 use Prim.Native.Nat.{ℕ, zero, suc, _+_, _-_, _*_, _/_, _<_, _≤_}
 use native.Mathlib.Nat.{sub-zero}
 use native.Mathlib.Omega.{arith}
-use lib.IntN.{ℤ}
+use lib.IntN.{ℤ, pos}
 use lib.ListN.{length, set, length-set}
 use lib.Dec.{ltb}
 use borrow.Author.Tests.{ltb-true, ltb-false, lt-ltb, le-ltb}
 use Rattle.kernel.specs.declared.How.the-variants as How
+use Rattle.kernel.specs.declared.Spot.{Spot}
 use Rattle.kernel.specs.declared.Stepped.{Stepped}
 use Rattle.handler.specs.Kernel.{Instruction, Outcome, returned, denied, failed, Effect, ends, goes, effectAt}
 use Rattle.handler.specs.Kernel.{Code, Kernel, Result, ended, after, step, run, start}
 use Rattle.handler.specs.Space.{instructionAt, held, handleSpace}
-use Rattle.kernel.specs.Words.{stackOf, effectOf, actOf, Acts, Held}
+use Rattle.kernel.specs.Words.{stackOf, spot, state, effectOf, Acts, Held}
 use Rattle.kernel.proofs.Words.{stack-length}
 use Rattle.handler.proofs.Effect.{step-kept}
 
--- the kernel's state that the words stand for
-abbrev pub state : ℕ → ℕ → List ℤ → List ℤ → ℕ → Kernel
-state place depth stack row steps = record { place = place; stack = stackOf stack depth; row = row; steps = steps }
-
-pub record Going (count : ℕ) (space row₀ : List ℤ) (place depth : ℕ) (stack row : List ℤ) (steps : ℕ) : Type 0 where
-  pub few : steps ≤ place
-  pub deep : depth ≤ 64
+pub record Going (count : ℕ) (space row₀ : List ℤ) (s : Spot) (stack row : List ℤ) (steps : ℕ) : Type 0 where
+  pub few : steps ≤ s .place
+  pub deep : s .depth ≤ 64
   pub size : length stack ≡ 64
   pub words : length row ≡ 7
-  pub left : run (held space count) (count - steps) (state place depth stack row steps) ≡ handleSpace space count row₀
+  pub left : run (held space count) (count - steps) (state s stack row steps) ≡ handleSpace space count row₀
 
 abbrev pub result : Outcome → List ℤ → ℕ → Result
 result o row steps = record { outcome = o; row = row; steps = steps }
@@ -77,10 +74,10 @@ held-both words count limit place h p = by (ltb place count) (ltb (2 * place + 1
 -- The loop
 -- ════════════════════════════════════════════════════════════════════════════════════════════
 
--- an instruction, or none, at the place
-act-at : (o : Option Instruction) (x : Kernel) → effectAt o x ≡ actOf o (x .place) (x .stack) (x .row)
-act-at none x = refl
-act-at (some i) x = refl
+-- an instruction, or none, does not ask after the steps
+act-at : (o : Option Instruction) (s : Spot) (stack row : List ℤ) (n m : ℕ) → effectAt o (state s stack row n) ≡ effectAt o (state s stack row m)
+act-at none s stack row n m = refl
+act-at (some i) s stack row n m = refl
 
 -- with none there the run fails, whatever steps are left
 run-none : (code : Code) (fuel : ℕ) (x : Kernel) → code (x .place) ≡ none → run code fuel x ≡ ended failed x
@@ -89,7 +86,7 @@ run-none code zero x e = refl
 run-none code (suc fuel) x e = rw e
 
 module _ (count : ℕ) (space row₀ : List ℤ) where
-  pub going-start : (stack : List ℤ) → length stack ≡ 64 → length row₀ ≡ 7 → Going count space row₀ 0 0 stack row₀ 0
+  pub going-start : (stack : List ℤ) → length stack ≡ 64 → length row₀ ≡ 7 → Going count space row₀ (spot 0 0 (pos 0)) stack row₀ 0
   unfolding handleSpace stackOf
   going-start stack h l =
       record {
@@ -100,32 +97,32 @@ module _ (count : ℕ) (space row₀ : List ℤ) where
         left = ap (λ (n : ℕ). run (held space count) n (start row₀)) (sub-zero count);
       }
 
-  module _ (limit : ℕ) (h : Held (length space) count limit) (place depth : ℕ) (stack row : List ℤ) (steps : ℕ)
-      (g : Going count space row₀ place depth stack row steps) where
-    pub going-end : limit ≤ place → result failed row steps ≡ handleSpace space count row₀
+  module _ (limit : ℕ) (h : Held (length space) count limit) (s : Spot) (stack row : List ℤ) (steps : ℕ)
+      (g : Going count space row₀ s stack row steps) where
+    pub going-end : limit ≤ s .place → result failed row steps ≡ handleSpace space count row₀
     unfolding Held
     going-end l =
-        let e = sym (h place) ∙ le-ltb place limit l in
-        sym (run-none (held space count) (count - steps) (state place depth stack row steps) (rw e)) ∙ g .left
+        let e = sym (h (s .place)) ∙ le-ltb (s .place) limit l in
+        sym (run-none (held space count) (count - steps) (state s stack row steps) (rw e)) ∙ g .left
 
-    module _ (p : place < limit) where
+    module _ (p : s .place < limit) where
       -- one step more
-      next : after (step (held space count) (state place depth stack row steps)) (state place depth stack row steps)
+      next : after (step (held space count) (state s stack row steps)) (state s stack row steps)
           (λ y. run (held space count) (count - (steps + 1)) y) ≡ handleSpace space count row₀
       unfolding run
       next =
-          let z : count - steps ≡ suc (count - (steps + 1)) = omega (arith, g .few, held-both (length space) count limit place h p .0) in
-          sym (ap (λ (n : ℕ). run (held space count) n (state place depth stack row steps)) z) ∙ g .left
+          let z : count - steps ≡ suc (count - (steps + 1)) = omega (arith, g .few, held-both (length space) count limit (s .place) h p .0) in
+          sym (ap (λ (n : ℕ). run (held space count) n (state s stack row steps)) z) ∙ g .left
 
-      module _ (r : Stepped) (stack′ : List ℤ) (a : Acts row (instructionAt space place) place depth stack r stack′) where
-        here : step (held space count) (state place depth stack row steps) ≡ effectOf r stack′ row
+      module _ (r : Stepped) (stack′ : List ℤ) (a : Acts row (instructionAt space (s .place)) s stack r stack′) where
+        here : step (held space count) (state s stack row steps) ≡ effectOf r stack′ row
         unfolding step Acts Held
         here =
-            let e = sym (h place) ∙ lt-ltb place limit p in
-            rw e (act-at (instructionAt space place) (state place depth stack row steps) ∙ sym a)
+            let e = sym (h (s .place)) ∙ lt-ltb (s .place) limit p in
+            rw e (act-at (instructionAt space (s .place)) s stack row steps 0 ∙ sym a)
 
         by : (e : Effect) → effectOf r stack′ row ≡ e
-            → after e (state place depth stack row steps) (λ y. run (held space count) (count - (steps + 1)) y)
+            → after e (state s stack row steps) (λ y. run (held space count) (count - (steps + 1)) y)
             ≡ handleSpace space count row₀
         by e f = rw (here ∙ f) at next
 
@@ -143,25 +140,25 @@ module _ (count : ℕ) (space row₀ : List ℤ) where
         going-failed q = by (ends failed) (rw q)
 
         module _ (q : r .how ≡ How.Goes) where
-          gone : effectOf r stack′ row ≡ goes (r .place) (stackOf stack′ (r .depth)) (set row (r .address) (r .word))
+          gone : effectOf r stack′ row ≡ goes (r .at .place) (stackOf (r .at) stack′) (set row (r .address) (r .word))
           gone = rw q
 
-          pub going-forward : place < r .place
-          going-forward = step-kept (held space count) (state place depth stack row steps) (here ∙ gone) .forward
+          pub going-forward : s .place < r .at .place
+          going-forward = step-kept (held space count) (state s stack row steps) (here ∙ gone) .forward
 
           pub going-on : length stack′ ≡ length stack
-              → Going count space row₀ (r .place) (r .depth) stack′ (set row (r .address) (r .word)) (steps + 1)
-          going-on s =
-              let k = step-kept (held space count) (state place depth stack row steps) (here ∙ gone) in
-              let f = stack-length stack depth in
+              → Going count space row₀ (r .at) stack′ (set row (r .address) (r .word)) (steps + 1)
+          going-on l =
+              let k = step-kept (held space count) (state s stack row steps) (here ∙ gone) in
+              let f = stack-length s stack in
               record {
                 few = omega (arith, g .few, going-forward);
-                deep = rw (stack-length stack′ (r .depth)) at (k .depth (omega (arith, g .deep)));
-                size = s ∙ g .size;
+                deep = rw (stack-length (r .at) stack′) at (k .depth (omega (arith, g .deep)));
+                size = l ∙ g .size;
                 words = length-set row (r .address) (r .word) ∙ g .words;
                 left =
                     let z : steps + 1 ≡ suc steps = omega arith in
                     let w = set row (r .address) (r .word) in
-                    ap (λ (n : ℕ). run (held space count) (count - (steps + 1)) (state (r .place) (r .depth) stack′ w n)) z
-                    ∙ by (goes (r .place) (stackOf stack′ (r .depth)) w) gone;
+                    ap (λ (n : ℕ). run (held space count) (count - (steps + 1)) (state (r .at) stack′ w n)) z
+                    ∙ by (goes (r .at .place) (stackOf (r .at) stack′) w) gone;
               }

@@ -13,54 +13,98 @@ use lib.Signed.{ltZ, mag}
 use borrow.Author.Tests.{ltb-true}
 use Rattle.kernel.specs.declared.Whole.the-variants.{At, Below}
 use Rattle.handler.specs.Kernel.{Effect, ends, failed, withValue, withValues}
-use Rattle.kernel.specs.Words.{stackOf, wholeOf}
+use Rattle.kernel.specs.declared.Spot.{Spot}
+use Rattle.kernel.specs.Words.{lying, topped, stackOf, below, wholeOf}
 
-pub stack-length : (st : List ℤ) (d : ℕ) → length (stackOf st d) ≡ d
-unfolding stackOf
-stack-length st zero = refl
-stack-length st (suc d) = ap suc (stack-length st d)
+-- ════════════════════════════════════════════════════════════════════════════════════════════
+-- Entries that lie in words
+-- ════════════════════════════════════════════════════════════════════════════════════════════
 
--- what lies above the stack does not count
-pub stack-above : (st : List ℤ) (d i : ℕ) (a : ℤ) → d ≤ i → stackOf (set st i a) d ≡ stackOf st d
-unfolding stackOf
-stack-above st zero i a h = refl
-stack-above st (suc d) i a h =
-    ap₂ (λ (x : ℤ) (xs : List ℤ). x ∷ xs) (getD-set-other st i d a (pos 0) (λ e. omega arith)) (stack-above st d i a (omega arith))
+module _ (w : List ℤ) where
+  lying-length : (n : ℕ) → length (lying w n) ≡ n
+  unfolding lying
+  lying-length zero = refl
+  lying-length (suc n) = ap suc (lying-length n)
 
--- one entry more
-pub stack-push : (st : List ℤ) (d : ℕ) (a : ℤ) → d < length st → stackOf (set st d a) (d + 1) ≡ a ∷ stackOf st d
-unfolding stackOf
-stack-push st d a h =
-    let e : d + 1 ≡ suc d = omega arith in
-    rw (e, stack-above st d d a (omega arith), getD-set-same st d a (pos 0) h)
+  -- what lies above them does not count
+  lying-above : (n i : ℕ) (a : ℤ) → n < i → lying (set w i a) n ≡ lying w n
+  unfolding lying
+  lying-above zero i a h = refl
+  lying-above (suc n) i a h =
+      ap₂ (λ (x : ℤ) (xs : List ℤ). x ∷ xs) (getD-set-other w i (suc n) a (pos 0) (λ e. omega arith)) (lying-above n i a (omega arith))
 
--- the top, and the two topmost
-pub value-one : (st : List ℤ) (d : ℕ) (k : ℤ → List ℤ → Effect) → 1 ≤ d
-    → withValue (stackOf st d) k ≡ k (getD st (d - 1) (pos 0)) (stackOf st (d - 1))
-unfolding stackOf
-value-one st zero k h = absurd (omega arith)
-value-one st (suc d) k h = let e : suc d - 1 ≡ d = omega arith in rw e
+  -- one more, on e others
+  pub lying-set : (d e : ℕ) (a : ℤ) → d < length w → d ≡ e + 1 → lying (set w d a) d ≡ a ∷ lying w e
+  unfolding lying
+  lying-set zero e a h q = absurd (omega arith)
+  lying-set (suc d) e a h q =
+      let f : d ≡ e = omega arith in
+      rw (f, lying-above e (suc e) a (omega arith), getD-set-same w (suc e) a (pos 0) (omega arith))
 
-pub value-none : (st : List ℤ) (d : ℕ) (k : ℤ → List ℤ → Effect) → d < 1 → withValue (stackOf st d) k ≡ ends failed
-unfolding stackOf
-value-none st zero k h = refl
-value-none st (suc d) k h = absurd (omega arith)
+  -- the topmost of them at hand
+  pub lying-topped : (n : ℕ) → topped (getD w n (pos 0)) n w ≡ lying w n
+  unfolding lying
+  lying-topped zero = refl
+  lying-topped (suc n) = refl
 
-pub values-two : (st : List ℤ) (d : ℕ) (k : ℤ → ℤ → List ℤ → Effect) → 2 ≤ d
-    → withValues (stackOf st d) k ≡ k (getD st (d - 1) (pos 0)) (getD st (d - 2) (pos 0)) (stackOf st (d - 2))
-unfolding stackOf
-values-two st zero k h = absurd (omega arith)
-values-two st (suc zero) k h = absurd (omega arith)
-values-two st (suc (suc d)) k h =
-    let e : suc (suc d) - 1 ≡ suc d = omega arith in
-    let f : suc (suc d) - 2 ≡ d = omega arith in
-    rw (e, f)
+  pub topped-at : (top : ℤ) (d e : ℕ) → d ≡ e + 1 → topped top d w ≡ top ∷ lying w e
+  topped-at top zero e q = absurd (omega arith)
+  topped-at top (suc d) e q = let f : d ≡ e = omega arith in rw f
 
-pub values-none : (st : List ℤ) (d : ℕ) (k : ℤ → ℤ → List ℤ → Effect) → d < 2 → withValues (stackOf st d) k ≡ ends failed
-unfolding stackOf
-values-none st zero k h = refl
-values-none st (suc zero) k h = refl
-values-none st (suc (suc d)) k h = absurd (omega arith)
+  -- that one put to the others, and another at hand
+  pub topped-push : (top a : ℤ) (d : ℕ) → d < length w → topped a (d + 1) (set w d top) ≡ a ∷ topped top d w
+  unfolding lying
+  topped-push top a zero h = refl
+  topped-push top a (suc d) h =
+      let e : suc d + 1 ≡ suc (suc d) = omega arith in
+      rw e (ap (λ (xs : List ℤ). a ∷ xs) (lying-set (suc d) d top h (omega arith)))
+
+-- ════════════════════════════════════════════════════════════════════════════════════════════
+-- The stack where a handler stands
+-- ════════════════════════════════════════════════════════════════════════════════════════════
+
+module _ (s : Spot) (w : List ℤ) where
+  pub stack-length : length (stackOf s w) ≡ s .depth
+  unfolding stackOf
+  stack-length = by (s .depth)
+    where
+      by : (d : ℕ) → length (topped (s .top) d w) ≡ d
+      by zero = refl
+      by (suc d) = ap suc (lying-length w d)
+
+  pub below-stack : stackOf (below s w) w ≡ lying w (s .depth - 1)
+  unfolding stackOf
+  below-stack = lying-topped w (s .depth - 1)
+
+  -- the top, and the two topmost
+  pub value-one : (k : ℤ → List ℤ → Effect) → 1 ≤ s .depth → withValue (stackOf s w) k ≡ k (s .top) (lying w (s .depth - 1))
+  unfolding stackOf
+  value-one k h = rw (topped-at w (s .top) (s .depth) (s .depth - 1) (omega arith))
+
+  pub value-none : (k : ℤ → List ℤ → Effect) → s .depth < 1 → withValue (stackOf s w) k ≡ ends failed
+  unfolding stackOf
+  value-none k h = let e : s .depth ≡ 0 = omega arith in rw e
+
+  pub values-two : (k : ℤ → ℤ → List ℤ → Effect) → 2 ≤ s .depth
+      → withValues (stackOf s w) k ≡ k (s .top) (getD w (s .depth - 1) (pos 0)) (lying w (s .depth - 2))
+  unfolding stackOf lying
+  values-two k h =
+      let e : s .depth ≡ suc (suc (s .depth - 2)) = omega arith in
+      let f : s .depth - 1 ≡ suc (s .depth - 2) = omega arith in
+      by (s .depth) (s .depth - 2) e f
+    where
+      by : (d n : ℕ) → d ≡ suc (suc n) → s .depth - 1 ≡ suc n
+          → withValues (topped (s .top) d w) k ≡ k (s .top) (getD w (s .depth - 1) (pos 0)) (lying w n)
+      by d n e f = rw (e, f)
+
+  pub values-none : (k : ℤ → ℤ → List ℤ → Effect) → s .depth < 2 → withValues (stackOf s w) k ≡ ends failed
+  unfolding stackOf lying
+  values-none k h = by (s .depth) h
+    where
+      by : (d : ℕ) → d < 2 → withValues (topped (s .top) d w) k ≡ ends failed
+      by zero h = refl
+      by (suc zero) h = refl
+      by (suc (suc d)) h = absurd (omega arith)
 
 -- ════════════════════════════════════════════════════════════════════════════════════════════
 -- Numbers

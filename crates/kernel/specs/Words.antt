@@ -1,9 +1,10 @@
--- The kernel on words, as the code has it: the stack lies in a run of words, bottom first, and an instruction hands back a record.
-use Prim.Native.Nat.{ℕ, zero, suc, _+_, _*_}
+-- The kernel on words, as the code has it: the topmost entry of the stack is at hand, the others lie in a run of words, bottom first, and
+-- an instruction hands back a record.
+use Prim.Native.Nat.{ℕ, zero, suc, _+_, _-_, _*_, _^_, _<_, _≤_}
 use mathlib.Core.Path.{_≡_}
 use mathlib.Core.Bool.{_&&_}
 use mathlib.Core.List.{List, [], _∷_}
-use mathlib.Core.Option.{Option, none, some}
+use mathlib.Core.Option.{Option}
 use lib.IntN.{ℤ, pos, negsuc}
 use lib.ListN.{length, getD, set}
 use lib.Dec.{ltb, eqb}
@@ -13,19 +14,41 @@ use Rattle.kernel.specs.declared.Whole.{Whole}
 use Rattle.kernel.specs.declared.Whole.the-variants.{At, Below}
 use Rattle.kernel.specs.declared.How.{How}
 use Rattle.kernel.specs.declared.How.the-variants as How
+use Rattle.kernel.specs.declared.Spot.{Spot}
 use Rattle.kernel.specs.declared.Stepped.{Stepped}
 use Rattle.kernel.specs.declared.Outcome as Ended
 use Rattle.kernel.specs.declared.Outcome.the-variants as End
 use Rattle.kernel.specs.declared.Handled.{Handled}
 use Rattle.kernel.specs.declared.Finished.{Finished}
 use Rattle.handler.specs.Kernel.{Instruction, Add, Sub, Or, Outcome, returned, denied, failed, orWord}
-use Rattle.handler.specs.Kernel.{Effect, ends, goes, effect, Result}
+use Rattle.handler.specs.Kernel.{Effect, ends, goes, effect, effectAt, Kernel, Result}
 use Rattle.handler.specs.Space.{codeOf}
 
--- the entries of a stack of so many, top first
-unfoldable pub stackOf : List ℤ → ℕ → List ℤ
-stackOf words zero = []
-stackOf words (suc depth) = getD words depth (pos 0) ∷ stackOf words depth
+-- so many entries that lie in words, top first: the bottom one in word 1; word 0 counts for nothing
+unfoldable pub lying : List ℤ → ℕ → List ℤ
+lying words zero = []
+lying words (suc n) = getD words (suc n) (pos 0) ∷ lying words n
+
+-- the stack of so many entries, the topmost of which is at hand
+abbrev pub topped : ℤ → ℕ → List ℤ → List ℤ
+topped top zero words = []
+topped top (suc n) words = top ∷ lying words n
+
+unfoldable pub stackOf : Spot → List ℤ → List ℤ
+stackOf s words = topped (s .top) (s .depth) words
+
+abbrev pub spot : (place depth : ℕ) → ℤ → Spot
+spot place depth top = record { place = place; depth = depth; top = top }
+
+-- without its topmost entry
+abbrev pub below : Spot → List ℤ → Spot
+below s words = spot (s .place) (s .depth - 1) (getD words (s .depth - 1) (pos 0))
+
+-- the stack is in the 64 words, and a place more can be counted
+pub record Room (s : Spot) (words : List ℤ) : Type 0 where
+  pub place : s .place < 2 ^ 63
+  pub depth : s .depth ≤ 64
+  pub size : length words ≡ 64
 
 abbrev pub wholeOf : ℤ → Whole
 wholeOf (pos n) = At n
@@ -36,36 +59,36 @@ wholeOf (negsuc n) = Below n
 -- ════════════════════════════════════════════════════════════════════════════════════════════
 
 abbrev pub ending : How → Stepped
-ending how = record { how = how; place = 0; depth = 0; address = 7; word = pos 0 }
+ending how = record { how = how; at = spot 0 0 (pos 0); address = 7; word = pos 0 }
 
-abbrev pub going : ℕ → ℕ → Stepped
-going place depth = record { how = How.Goes; place = place; depth = depth; address = 7; word = pos 0 }
+abbrev pub going : Spot → Stepped
+going s = record { how = How.Goes; at = s; address = 7; word = pos 0 }
 
 -- what it stands for, beside the stack's words and the row
 abbrev pub effectBy : How → Stepped → List ℤ → List ℤ → Effect
-effectBy How.Goes r stack row = goes (r .place) (stackOf stack (r .depth)) (set row (r .address) (r .word))
-effectBy How.Returned r stack row = ends returned
-effectBy How.Denied r stack row = ends denied
-effectBy How.Failed r stack row = ends failed
+effectBy How.Goes r words row = goes (r .at .place) (stackOf (r .at) words) (set row (r .address) (r .word))
+effectBy How.Returned r words row = ends returned
+effectBy How.Denied r words row = ends denied
+effectBy How.Failed r words row = ends failed
 
 abbrev pub effectOf : Stepped → List ℤ → List ℤ → Effect
-effectOf r stack row = effectBy (r .how) r stack row
+effectOf r words row = effectBy (r .how) r words row
 
--- an instruction at a place was carried out on a row, on a stack of so many entries
-unfoldable pub DoesOn : List ℤ → Instruction → (place depth : ℕ) → List ℤ → Stepped → List ℤ → Type 0
-DoesOn row i place depth before r after = effectOf r after row ≡ effect i place (stackOf before depth) row
+-- an instruction was carried out on a row, from a spot
+unfoldable pub DoesOn : List ℤ → Instruction → Spot → List ℤ → Stepped → List ℤ → Type 0
+DoesOn row i s before r after = effectOf r after row ≡ effect i (s .place) (stackOf s before) row
 
 -- and on any row
-unfoldable pub Does : Instruction → (place depth : ℕ) → List ℤ → Stepped → List ℤ → Type 0
-Does i place depth before r after = (row : List ℤ) → length row ≡ 7 → DoesOn row i place depth before r after
+unfoldable pub Does : Instruction → Spot → List ℤ → Stepped → List ℤ → Type 0
+Does i s before r after = (row : List ℤ) → length row ≡ 7 → DoesOn row i s before r after
+
+-- the kernel's state that the words stand for, after so many steps
+abbrev pub state : Spot → List ℤ → List ℤ → ℕ → Kernel
+state s words row steps = record { place = s .place; stack = stackOf s words; row = row; steps = steps }
 
 -- the instruction, if there is one
-abbrev pub actOf : Option Instruction → ℕ → List ℤ → List ℤ → Effect
-actOf none place s row = ends failed
-actOf (some i) place s row = effect i place s row
-
-unfoldable pub Acts : List ℤ → Option Instruction → (place depth : ℕ) → List ℤ → Stepped → List ℤ → Type 0
-Acts row o place depth before r after = effectOf r after row ≡ actOf o place (stackOf before depth) row
+unfoldable pub Acts : List ℤ → Option Instruction → Spot → List ℤ → Stepped → List ℤ → Type 0
+Acts row o s before r after = effectOf r after row ≡ effectAt o (state s before row 0)
 
 -- ════════════════════════════════════════════════════════════════════════════════════════════
 -- Parts of instructions
@@ -78,21 +101,19 @@ folding code = choose (eqb code (codeOf Add)) Add (choose (eqb code (codeOf Sub)
 abbrev pub combined : ℕ → ℤ → ℤ → ℤ
 combined code a b = choose (eqb code (codeOf Add)) (addWrap a b) (choose (eqb code (codeOf Sub)) (subWrap a b) (orWord a b))
 
--- a jump: forward, or to −1
-abbrev pub jumpBy : Whole → ℕ → ℕ → Stepped
-jumpBy (At n) place depth = choose (ltb place n) (going n depth) (ending How.Failed)
-jumpBy (Below n) place depth = choose (eqb n 0) (ending How.Denied) (ending How.Failed)
+-- at another place
+abbrev pub moved : Spot → ℕ → Spot
+moved s place = spot place (s .depth) (s .top)
 
-abbrev pub jumpingTo : ℤ → ℕ → ℕ → Stepped
-jumpingTo target place depth = jumpBy (wholeOf target) place depth
+-- a jump: forward, or to −1
+abbrev pub jumpingTo : Whole → Spot → Stepped
+jumpingTo (At n) s = choose (ltb (s .place) n) (going (moved s n)) (ending How.Failed)
+jumpingTo (Below n) s = choose (eqb n 0) (ending How.Denied) (ending How.Failed)
 
 -- a branch that is taken: forward, or back to −1
-abbrev pub branchBy : Whole → ℕ → ℕ → Stepped
-branchBy (At n) place depth = choose (ltb 0 n) (going (place + n) depth) (ending How.Failed)
-branchBy (Below n) place depth = choose (eqb n place) (ending How.Denied) (ending How.Failed)
-
-abbrev pub branching : ℤ → ℕ → ℕ → Stepped
-branching operand place depth = branchBy (wholeOf operand) place depth
+abbrev pub branching : Whole → Spot → Stepped
+branching (At n) s = choose (ltb 0 n) (going (moved s (s .place + n))) (ending How.Failed)
+branching (Below n) s = choose (eqb n (s .place)) (ending How.Denied) (ending How.Failed)
 
 -- ════════════════════════════════════════════════════════════════════════════════════════════
 -- What a handler leaves
@@ -108,9 +129,6 @@ unfoldable pub Held : (words count limit : ℕ) → Type 0
 Held words count limit = (place : ℕ) → ltb place limit ≡ (ltb place count && ltb (2 * place + 1) words)
 
 -- a run's end and its steps, with the row beside them
-abbrev pub finishing : Ended.Outcome → ℕ → Finished
-finishing outcome steps = record { outcome = outcome; steps = steps }
-
 abbrev pub leftBy : Finished → List ℤ → Result
 leftBy r row = record { outcome = outcomeOf (r .outcome); row = row; steps = r .steps }
 

@@ -17,12 +17,13 @@ use word::memory::put;
 use word::number::Index;
 ghost use mathlib.Core.Path.{_≡_};
 ghost use Prim.Native.Nat.{_≤_, _<_, _^_};
-ghost use lib.IntN.{pos};
+ghost use mathlib.Core.List.{List};
+ghost use lib.IntN.{ℤ, pos};
 ghost use lib.ListN.{length};
 ghost use Rattle.handler.specs.Kernel.{orWord, Load, Store, Dup, Swap, Jump, Push, Bnz};
 ghost use Rattle.handler.specs.Space.{known, handleSpace};
-ghost use Rattle.kernel.specs.Words.{wholeOf, ending, going, combined, folding, jumpingTo, branching, Does, DoesOn, Acts};
-ghost use Rattle.kernel.specs.Words.{Held, finishing, leftBy, resultOf};
+ghost use Rattle.kernel.specs.Words.{wholeOf, Room, below, ending, going, combined, folding, jumpingTo, branching};
+ghost use Rattle.kernel.specs.Words.{DoesOn, Does, Acts, Held, leftBy, resultOf};
 
 // How a handler ended: by Ret, by the jump to -1, or by leaving its rules.
 pub enum Outcome {
@@ -57,12 +58,18 @@ enum How {
     Failed,
 }
 
-// An instruction that was carried out: how, and where it goes on: the place, how many entries the stack has, and the one word of the rule
-// memory that changes; address 7 says none.
-struct Stepped {
-    how: How,
+// Where a handler stands: the place, how many entries its stack has, and the topmost of them; the others lie in words.
+struct Spot {
     place: u64,
     depth: usize,
+    top: i64,
+}
+
+// An instruction that was carried out: how, and where the handler stands then, with the one word of the rule memory that changes;
+// address 7 says none.
+struct Stepped {
+    how: How,
+    at: Spot,
     address: usize,
     word: i64,
 }
@@ -80,22 +87,25 @@ fn sized(word: i64) -> Whole
 fn ended(how: How) -> Stepped
     ensures { λ r. ⌜ r ≡ ending how ⌝ }
 {
-    Stepped {
-        how,
+    let at = Spot {
         place: 0,
         depth: 0,
+        top: 0,
+    };
+    Stepped {
+        how,
+        at,
         address: 7,
         word: 0,
     }
 }
 
-fn gone(place: u64, depth: usize) -> Stepped
-    ensures { λ r. ⌜ r ≡ going place depth ⌝ }
+fn gone(at: Spot) -> Stepped
+    ensures { λ r. ⌜ r ≡ going at ⌝ }
 {
     Stepped {
         how: How::Goes,
-        place,
-        depth,
+        at,
         address: 7,
         word: 0,
     }
@@ -121,102 +131,140 @@ fn combine(code: u64, a: i64, b: i64) -> i64
 }
 
 // Add, Sub and Or.
-fn fold(code: u64, place: u64, depth: usize, stack: &mut [i64]) -> Stepped
-    requires { ⌜ (place < 2 ^ 63) × (depth ≤ 64) × (length (now stack) ≡ 64) ⌝ }
-    ensures { λ r. ⌜ Does (folding code) place depth (now (stack .entry)) r (now (stack .exit)) ⌝ }
+fn fold(code: u64, s: Spot, stack: &[i64]) -> Stepped
+    requires { ⌜ Room s (now stack) ⌝ }
+    ensures { λ r. ⌜ Does (folding code) s (now (stack .entry)) r (now (stack .entry)) ⌝ }
 {
+    let depth = s.depth;
     if depth < 2 {
         return ended(How::Failed);
     }
-    let a = stack[depth - 1];
-    let b = stack[depth - 2];
-    stack[depth - 2] = combine(code, a, b);
-    gone(place + 1, depth - 1)
+    let top = combine(code, s.top, stack[depth - 1]);
+    gone(Spot {
+        place: s.place + 1,
+        depth: depth - 1,
+        top,
+    })
 }
 
-fn push(word: i64, place: u64, depth: usize, stack: &mut [i64]) -> Stepped
-    requires { ⌜ (place < 2 ^ 63) × (depth ≤ 64) × (length (now stack) ≡ 64) ⌝ }
-    ensures { λ r. ⌜ Does (Push word) place depth (now (stack .entry)) r (now (stack .exit)) ⌝ }
+// The topmost entry goes to where the others lie.
+fn push(word: i64, s: Spot, stack: &mut [i64]) -> Stepped
+    requires { ⌜ Room s (now stack) ⌝ }
+    ensures { λ r. ⌜ Does (Push word) s (now (stack .entry)) r (now (stack .exit)) ⌝ }
 {
+    let depth = s.depth;
     if depth < 64 {
-        stack[depth] = word;
-        return gone(place + 1, depth + 1);
+        let top = s.top;
+        stack[depth] = top;
+        return gone(Spot {
+            place: s.place + 1,
+            depth: depth + 1,
+            top: word,
+        });
     }
     ended(How::Failed)
 }
 
-fn dup(place: u64, depth: usize, stack: &mut [i64]) -> Stepped
-    requires { ⌜ (place < 2 ^ 63) × (depth ≤ 64) × (length (now stack) ≡ 64) ⌝ }
-    ensures { λ r. ⌜ Does Dup place depth (now (stack .entry)) r (now (stack .exit)) ⌝ }
+fn dup(s: Spot, stack: &mut [i64]) -> Stepped
+    requires { ⌜ Room s (now stack) ⌝ }
+    ensures { λ r. ⌜ Does Dup s (now (stack .entry)) r (now (stack .exit)) ⌝ }
 {
-    if depth < 1 {
+    if s.depth < 1 {
         return ended(How::Failed);
     }
-    let a = stack[depth - 1];
-    push(a, place, depth, stack)
+    push(s.top, s, stack)
 }
 
-fn swap(place: u64, depth: usize, stack: &mut [i64]) -> Stepped
-    requires { ⌜ (place < 2 ^ 63) × (depth ≤ 64) × (length (now stack) ≡ 64) ⌝ }
-    ensures { λ r. ⌜ Does Swap place depth (now (stack .entry)) r (now (stack .exit)) ⌝ }
+fn swap(s: Spot, stack: &mut [i64]) -> Stepped
+    requires { ⌜ Room s (now stack) ⌝ }
+    ensures { λ r. ⌜ Does Swap s (now (stack .entry)) r (now (stack .exit)) ⌝ }
 {
+    let depth = s.depth;
     if depth < 2 {
         return ended(How::Failed);
     }
-    let a = stack[depth - 1];
-    let b = stack[depth - 2];
-    stack[depth - 2] = a;
-    stack[depth - 1] = b;
-    gone(place + 1, depth)
+    let top = s.top;
+    let under = stack[depth - 1];
+    stack[depth - 1] = top;
+    gone(Spot {
+        place: s.place + 1,
+        depth,
+        top: under,
+    })
 }
 
-fn load(place: u64, depth: usize, stack: &mut [i64], row: &[i64]) -> Stepped
-    requires { ⌜ (place < 2 ^ 63) × (depth ≤ 64) × (length (now stack) ≡ 64) × (length (now row) ≡ 7) ⌝ }
-    ensures { λ r. ⌜ DoesOn (now (row .entry)) Load place depth (now (stack .entry)) r (now (stack .exit)) ⌝ }
+fn load(s: Spot, row: &[i64]) -> Stepped
+    requires { ⌜ (s .place < 2 ^ 63) × (length (now row) ≡ 7) ⌝ }
+    ensures { λ r. ⌜ ((stack : List ℤ) → DoesOn (now (row .entry)) Load s stack r stack) ⌝ }
 {
+    let depth = s.depth;
     if depth < 1 {
         return ended(How::Failed);
     }
-    let address = word::number::below(stack[depth - 1], 7);
+    let address = word::number::below(s.top, 7);
     match address {
-        Index::At(i) => {
-            stack[depth - 1] = row[i];
-            gone(place + 1, depth)
-        }
+        Index::At(i) => gone(Spot {
+            place: s.place + 1,
+            depth,
+            top: row[i],
+        }),
         Index::Outside => ended(How::Failed),
     }
 }
 
-fn store(place: u64, depth: usize, stack: &[i64]) -> Stepped
-    requires { ⌜ (place < 2 ^ 63) × (depth ≤ 64) × (length (now stack) ≡ 64) ⌝ }
-    ensures { λ r. ⌜ Does Store place depth (now (stack .entry)) r (now (stack .entry)) ⌝ }
+// Without its topmost entry.
+fn dropped(s: Spot, stack: &[i64]) -> Spot
+    requires { ⌜ Room s (now stack) × (1 ≤ s .depth) ⌝ }
+    ensures { λ r. ⌜ r ≡ below s (now (stack .entry)) ⌝ }
 {
+    let depth = s.depth - 1;
+    Spot {
+        place: s.place,
+        depth,
+        top: stack[depth],
+    }
+}
+
+fn store(s: Spot, stack: &[i64]) -> Stepped
+    requires { ⌜ Room s (now stack) ⌝ }
+    ensures { λ r. ⌜ Does Store s (now (stack .entry)) r (now (stack .entry)) ⌝ }
+{
+    let depth = s.depth;
     if depth < 2 {
         return ended(How::Failed);
     }
-    let b = stack[depth - 2];
-    let address = word::number::below(stack[depth - 1], 7);
+    let address = word::number::below(s.top, 7);
     match address {
-        Index::At(i) => Stepped {
-            how: How::Goes,
-            place: place + 1,
-            depth: depth - 2,
-            address: i,
-            word: b,
-        },
+        Index::At(i) => {
+            let at = Spot {
+                place: s.place + 1,
+                depth: depth - 2,
+                top: stack[depth - 2],
+            };
+            Stepped {
+                how: How::Goes,
+                at,
+                address: i,
+                word: stack[depth - 1],
+            }
+        }
         Index::Outside => ended(How::Failed),
     }
 }
 
 // A jump goes forward, or to -1.
-fn jump_to(target: i64, place: u64, depth: usize) -> Stepped
-    ensures { λ r. ⌜ r ≡ jumpingTo target place depth ⌝ }
+fn jump_to(target: i64, s: Spot) -> Stepped
+    ensures { λ r. ⌜ r ≡ jumpingTo (wholeOf target) s ⌝ }
 {
     let to = sized(target);
     match to {
         Whole::At(n) => {
-            if place < n {
-                gone(n, depth)
+            if s.place < n {
+                gone(Spot {
+                    place: n,
+                    depth: s.depth,
+                    top: s.top,
+                })
             } else {
                 ended(How::Failed)
             }
@@ -231,32 +279,36 @@ fn jump_to(target: i64, place: u64, depth: usize) -> Stepped
     }
 }
 
-fn jump(place: u64, depth: usize, stack: &[i64]) -> Stepped
-    requires { ⌜ (depth ≤ 64) × (length (now stack) ≡ 64) ⌝ }
-    ensures { λ r. ⌜ Does Jump place depth (now (stack .entry)) r (now (stack .entry)) ⌝ }
+fn jump(s: Spot, stack: &[i64]) -> Stepped
+    requires { ⌜ Room s (now stack) ⌝ }
+    ensures { λ r. ⌜ Does Jump s (now (stack .entry)) r (now (stack .entry)) ⌝ }
 {
-    if depth < 1 {
+    if s.depth < 1 {
         return ended(How::Failed);
     }
-    jump_to(stack[depth - 1], place, depth - 1)
+    jump_to(s.top, dropped(s, stack))
 }
 
 // A branch that is taken goes forward, or by place + 1 back to -1.
-fn branch(operand: i64, place: u64, depth: usize) -> Stepped
-    requires { ⌜ place < 2 ^ 63 ⌝ }
-    ensures { λ r. ⌜ r ≡ branching operand place depth ⌝ }
+fn branch(operand: i64, s: Spot) -> Stepped
+    requires { ⌜ s .place < 2 ^ 63 ⌝ }
+    ensures { λ r. ⌜ r ≡ branching (wholeOf operand) s ⌝ }
 {
     let distance = sized(operand);
     match distance {
         Whole::At(n) => {
             if 0 < n {
-                gone(place + n, depth)
+                gone(Spot {
+                    place: s.place + n,
+                    depth: s.depth,
+                    top: s.top,
+                })
             } else {
                 ended(How::Failed)
             }
         }
         Whole::Below(n) => {
-            if n == place {
+            if n == s.place {
                 ended(How::Denied)
             } else {
                 ended(How::Failed)
@@ -265,61 +317,52 @@ fn branch(operand: i64, place: u64, depth: usize) -> Stepped
     }
 }
 
-fn bnz(operand: i64, place: u64, depth: usize, stack: &[i64]) -> Stepped
-    requires { ⌜ (place < 2 ^ 63) × (depth ≤ 64) × (length (now stack) ≡ 64) ⌝ }
-    ensures { λ r. ⌜ Does (Bnz operand) place depth (now (stack .entry)) r (now (stack .entry)) ⌝ }
+fn bnz(operand: i64, s: Spot, stack: &[i64]) -> Stepped
+    requires { ⌜ Room s (now stack) ⌝ }
+    ensures { λ r. ⌜ Does (Bnz operand) s (now (stack .entry)) r (now (stack .entry)) ⌝ }
 {
-    if depth < 1 {
+    if s.depth < 1 {
         return ended(How::Failed);
     }
-    let tested = sized(stack[depth - 1]);
-    match tested {
-        Whole::At(n) => {
-            if n == 0 {
-                gone(place + 1, depth - 1)
-            } else {
-                branch(operand, place, depth - 1)
-            }
-        }
-        Whole::Below(_) => branch(operand, place, depth - 1),
+    let under = dropped(s, stack);
+    if s.top == 0 {
+        return gone(Spot {
+            place: under.place + 1,
+            depth: under.depth,
+            top: under.top,
+        });
     }
+    branch(operand, under)
 }
 
 // One instruction, chosen by a tree of tests.
-fn choose(
-    code: u64,
-    operand: i64,
-    place: u64,
-    depth: usize,
-    stack: &mut [i64],
-    row: &[i64],
-) -> Stepped
-    requires { ⌜ (place < 2 ^ 63) × (depth ≤ 64) × (length (now stack) ≡ 64) × (length (now row) ≡ 7) ⌝ }
-    ensures { λ r. ⌜ Acts (now (row .entry)) (known (pos code) operand) place depth (now (stack .entry)) r (now (stack .exit)) ⌝ }
+fn choose(code: u64, operand: i64, s: Spot, stack: &mut [i64], row: &[i64]) -> Stepped
+    requires { ⌜ Room s (now stack) × (length (now row) ≡ 7) ⌝ }
+    ensures { λ r. ⌜ Acts (now (row .entry)) (known (pos code) operand) s (now (stack .entry)) r (now (stack .exit)) ⌝ }
 {
     if code < STORE {
         if code <= SUB {
             if code < ADD {
                 return ended(How::Failed);
             }
-            return fold(code, place, depth, stack);
+            return fold(code, s, stack);
         }
         if code == PUSH {
-            return push(operand, place, depth, stack);
+            return push(operand, s, stack);
         }
         if code == LOAD {
-            return load(place, depth, stack, row);
+            return load(s, row);
         }
         return ended(How::Failed);
     }
     if code <= BNZ {
         if code == STORE {
-            return store(place, depth, stack);
+            return store(s, stack);
         }
         if code == JUMP {
-            return jump(place, depth, stack);
+            return jump(s, stack);
         }
-        return bnz(operand, place, depth, stack);
+        return bnz(operand, s, stack);
     }
     if code < OR {
         if code == RET {
@@ -328,23 +371,23 @@ fn choose(
         return ended(How::Failed);
     }
     if code == OR {
-        return fold(code, place, depth, stack);
+        return fold(code, s, stack);
     }
     if code == DUP {
-        return dup(place, depth, stack);
+        return dup(s, stack);
     }
     if code == SWAP {
-        return swap(place, depth, stack);
+        return swap(s, stack);
     }
     ended(How::Failed)
 }
 
 // The instruction that two words stand for.
-fn act(code: i64, operand: i64, place: u64, depth: usize, stack: &mut [i64], row: &[i64]) -> Stepped
-    requires { ⌜ (place < 2 ^ 63) × (depth ≤ 64) × (length (now stack) ≡ 64) × (length (now row) ≡ 7) ⌝ }
-    ensures { λ r. ⌜ Acts (now (row .entry)) (known code operand) place depth (now (stack .entry)) r (now (stack .exit)) ⌝ }
+fn act(code: i64, operand: i64, s: Spot, stack: &mut [i64], row: &[i64]) -> Stepped
+    requires { ⌜ Room s (now stack) × (length (now row) ≡ 7) ⌝ }
+    ensures { λ r. ⌜ Acts (now (row .entry)) (known code operand) s (now (stack .entry)) r (now (stack .exit)) ⌝ }
 {
-    choose(word::wrap::to_bits(code), operand, place, depth, stack, row)
+    choose(word::wrap::to_bits(code), operand, s, stack, row)
 }
 
 // How many instructions, of so many, a space of so many words holds: each takes two.
@@ -359,12 +402,6 @@ fn held(words: usize, count: usize) -> u64
     }
 }
 
-fn finish(outcome: Outcome, steps: u64) -> Finished
-    ensures { λ r. ⌜ r ≡ finishing outcome steps ⌝ }
-{
-    Finished { outcome, steps }
-}
-
 // Runs the handler on a stack of 64 words, which is empty, over the seven words of the rule memory, whatever the words. Every instruction
 // goes forward, so that the place alone bounds the run.
 fn go(space: &[i64], count: usize, stack: &mut [i64], row: &mut [i64]) -> Finished
@@ -372,26 +409,41 @@ fn go(space: &[i64], count: usize, stack: &mut [i64], row: &mut [i64]) -> Finish
     ensures { λ r. ⌜ leftBy r (now (row .exit)) ≡ handleSpace (now (space .entry)) count (now (row .entry)) ⌝ }
 {
     let limit = held(space.len(), count);
-    let mut place: u64 = 0;
-    let mut depth: usize = 0;
+    let mut at = Spot {
+        place: 0,
+        depth: 0,
+        top: 0,
+    };
     let mut steps: u64 = 0;
-    while place < limit {
-        let i = place as usize;
-        let r = act(space[2 * i], space[2 * i + 1], place, depth, stack, row);
+    while at.place < limit {
+        let i = at.place as usize;
+        let r = act(space[2 * i], space[2 * i + 1], at, stack, row);
         let how = r.how;
         match how {
             How::Goes => {
                 put(row, r.address, r.word);
-                place = r.place;
-                depth = r.depth;
+                let next = r.at;
+                at = next;
                 steps += 1;
             }
-            How::Returned => return finish(Outcome::Returned, steps + 1),
-            How::Denied => return finish(Outcome::Denied, steps + 1),
-            How::Failed => return finish(Outcome::Failed, steps),
+            How::Returned => return Finished {
+                outcome: Outcome::Returned,
+                steps: steps + 1,
+            },
+            How::Denied => return Finished {
+                outcome: Outcome::Denied,
+                steps: steps + 1,
+            },
+            How::Failed => return Finished {
+                outcome: Outcome::Failed,
+                steps,
+            },
         }
     }
-    finish(Outcome::Failed, steps)
+    Finished {
+        outcome: Outcome::Failed,
+        steps,
+    }
 }
 
 // Runs the handler of `count` instructions that a space holds, on the rule memory.

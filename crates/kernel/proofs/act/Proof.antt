@@ -22,4 +22,10 @@ returns c =
     at (at-choose .choose .ensures)
 
 pub act-spec : {M : Type 1} → statement M
-act-spec = tie.close (tie.spec (λ c κs. search needs) (λ c κs. search needs) (λ c. search needs) returns)
+act-spec =
+    tie.close
+    (tie.spec
+    (λ c κs. search needs)
+    (λ c κs. search needs)
+    (λ c. search needs)
+    returns)

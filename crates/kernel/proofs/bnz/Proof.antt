@@ -1,42 +1,51 @@
 -- `kernel::bnz` meets its contract.
 -- Assumes nothing.
-use mathlib.Core.Path.{sym, _∙_}
-use Rattle.word.proofs.Signed.{back, back-ok}
-use Rattle.kernel.proofs.Acting.{bnz-none, bnz-zero, bnz-at, bnz-below}
+use native.Mathlib.Omega.{arith}
+use Rattle.word.proofs.Signed.{back, back-ok, zero-is, zero-not}
+use Rattle.kernel.proofs.Acting.{bnz-none, bnz-zero, bnz-taken}
 use borrow.Author.Needs.{needs}
 use Rattle.kernel.proofs.bnz.Statement.{statement}
 use Rattle.kernel.proofs.bnz.Tie as tie
 
 returns : tie.Need-returns
-returns c = rw (c .ended .ensures) (bnz-none _ _ _ _ _ (c .before .if1 .taken))
+returns c = rw (c .ended .ensures) (bnz-none _ _ _ _ (c .before .if1 .taken))
+
+add-t7 : tie.Need-add-t7
+add-t7 c =
+    let at-dropped = c .before .before .before .before in
+    let start = at-dropped .before .before .before in
+    rw (at-dropped .dropped .ensures) (record { fits = omega (arith, start .pre .place) })
 
 returns-2 : tie.Need-returns-2
 returns-2 c =
-    let at-tested = c .before .before .before in
-    let at-sized = at-tested .before .before in
-    let at-arg = at-sized .before in
-    let w = sym (rw (back-ok _ (at-arg .sized-arg .given)) at (at-sized .sized .ensures)) ∙ at-tested .tested .given .1 in
-    rw (c .gone .ensures) (bnz-zero _ _ _ _ _ (at-arg .before .if1 .left) w (c .before .if2 .taken))
+    let at-if2 = c .before .before .before in
+    let at-told = at-if2 .before in
+    let at-dropped = at-told .before .before in
+    let at-if1 = at-dropped .before in
+    let s = at-if1 .before .before .args .s in
+    rw (
+      c .gone .ensures,
+      back-ok (at-dropped .dropped .result .top) (omega (arith, c .before .struct-told2 .given)),
+      at-dropped .dropped .ensures,
+    )
+    (bnz-zero s _ _ (at-if1 .if1 .left) (zero-is (s .top) (record { sfits = omega (arith, at-told .struct-told .given) }) (at-if2 .if2 .taken)))
+
+branch-requires : tie.Need-branch-requires
+branch-requires c κs =
+    let at-dropped = c .before .before .before in
+    let start = at-dropped .before .before .before in
+    rw (at-dropped .dropped .ensures) (start .pre .place)
 
 returns-3 : tie.Need-returns-3
 returns-3 c =
-    let at-tested = c .before .before .before in
-    let at-sized = at-tested .before .before in
-    let at-arg = at-sized .before in
-    let start = at-arg .before .before in
-    let w = sym (rw (back-ok _ (at-arg .sized-arg .given)) at (at-sized .sized .ensures)) ∙ at-tested .tested .given .1 in
-    rw (c .branch .ensures, back {z = start .args .operand} (start .fits .operand))
-    (bnz-at _ _ _ (start .args .operand) _ (at-arg .before .if1 .left) w (c .before .if2 .left))
-
-returns-4 : tie.Need-returns-4
-returns-4 c =
-    let at-tested = c .before in
-    let at-sized = at-tested .before .before in
-    let at-arg = at-sized .before in
-    let start = at-arg .before .before in
-    let w = sym (rw (back-ok _ (at-arg .sized-arg .given)) at (at-sized .sized .ensures)) ∙ at-tested .enum-told .given .1 in
-    rw (c .branch2 .ensures, back {z = start .args .operand} (start .fits .operand))
-    (bnz-below _ _ _ (start .args .operand) _ (at-arg .before .if1 .left) w)
+    let at-if2 = c .before in
+    let at-told = at-if2 .before in
+    let at-dropped = at-told .before .before in
+    let at-if1 = at-dropped .before in
+    let start = at-if1 .before .before in
+    let s = start .args .s in
+    rw (c .branch .ensures, back {z = start .args .operand} (start .fits .operand), at-dropped .dropped .ensures)
+    (bnz-taken s _ _ (at-if1 .if1 .left) (zero-not (s .top) (record { sfits = omega (arith, at-told .struct-told .given) }) (at-if2 .if2 .left)))
 
 pub bnz-spec : {M : Type 1} → statement M
 bnz-spec =
@@ -44,15 +53,9 @@ bnz-spec =
     (tie.spec
     (λ c κs. search needs)
     returns
-    (λ c. search needs)
-    (λ c. search needs)
     (λ c κs. search needs)
-    (λ c. search needs)
-    (λ c. search needs)
-    (λ c κs. search needs)
-    (λ c κs. search needs)
-    (λ c. search needs)
+    add-t7
     (λ c κs. search needs)
     returns-2
-    returns-3
-    returns-4)
+    branch-requires
+    returns-3)

@@ -2,10 +2,10 @@
 -- Assumes nothing.
 use borrow.Author.Tests.{lt-ltb, le-ltb, eq-eqb, ne-eqb}
 use mathlib.Core.Path.{_≡_, sym, _∙_}
+use native.Mathlib.Omega.{arith}
+use Rattle.word.proofs.Signed.{back, back-ok}
 use Rattle.kernel.specs.Words.{wholeOf}
 use Rattle.kernel.proofs.Acting.{whole-small}
-use native.Mathlib.Omega.{arith}
-use Rattle.word.proofs.Signed.{back}
 use borrow.Author.Needs.{needs}
 use Rattle.kernel.proofs.branch.Statement.{statement}
 use Rattle.kernel.proofs.branch.Tie as tie
@@ -14,16 +14,25 @@ use Rattle.kernel.proofs.branch.Tie as tie
 sized-as : (a : tie.After-sized) → a .sized .result ≡ wholeOf (a .before .args .operand)
 sized-as a = rw (back {z = a .before .args .operand} (a .before .fits .operand)) at (a .sized .ensures)
 
-add-gone : tie.Need-add-gone
-add-gone c =
-    let at-sized = c .before .before .before .before in
-    let small = whole-small _ _ (at-sized .before .fits .operand) (sym (sized-as at-sized) ∙ c .before .before .distance .given .1) in
+add-t9 : tie.Need-add-t9
+add-t9 c =
+    let at-distance = c .before .before .before in
+    let at-sized = at-distance .before .before in
+    let small = whole-small _ _ (at-sized .before .fits .operand) (sym (sized-as at-sized) ∙ at-distance .distance .given .1) in
     record { fits = omega (arith, at-sized .before .pre) }
 
 returns : tie.Need-returns
 returns c =
-    let at-distance = c .before .before .before in
-    rw (← sized-as (at-distance .before .before), at-distance .distance .given .1, lt-ltb _ _ (c .before .if1 .taken), c .gone .ensures)
+    let at-if1 = c .before .before .before in
+    let at-distance = at-if1 .before .before in
+    let at-sized = at-distance .before .before in
+    rw (
+      ← sized-as at-sized,
+      at-distance .distance .given .1,
+      lt-ltb _ _ (at-if1 .if1 .taken),
+      c .gone .ensures,
+      back-ok (at-sized .before .args .s .top) (omega (arith, c .before .struct-told .given)),
+    )
 
 returns-2 : tie.Need-returns-2
 returns-2 c =
@@ -32,12 +41,12 @@ returns-2 c =
 
 returns-3 : tie.Need-returns-3
 returns-3 c =
-    let at-distance = c .before .before .before in
+    let at-distance = c .before .before .before .before in
     rw (← sized-as (at-distance .before .before), at-distance .distance2 .given .1, eq-eqb _ _ (c .before .if2 .taken), c .ended2 .ensures)
 
 returns-4 : tie.Need-returns-4
 returns-4 c =
-    let at-distance = c .before .before .before in
+    let at-distance = c .before .before .before .before in
     rw (← sized-as (at-distance .before .before), at-distance .distance2 .given .1, ne-eqb _ _ (c .before .if2 .left), c .ended3 .ensures)
 
 pub branch-spec : {M : Type 1} → statement M
@@ -46,7 +55,7 @@ branch-spec =
     (tie.spec
     (λ c κs. search needs)
     (λ c. search needs)
-    add-gone
+    add-t9
     (λ c κs. search needs)
     (λ c κs. search needs)
     (λ c. search needs)

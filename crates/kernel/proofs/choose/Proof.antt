@@ -21,17 +21,17 @@ returns c =
     let at-if3 = c .before in
     let start = at-if3 .before .before .before in
     let n = start .args .operand in
-    acts-none _ _ _ _ _ _ _ (below-known (start .args .code) n (at-if3 .if3 .taken)) (c .ended .ensures)
+    acts-none _ _ _ _ _ _ (below-known (start .args .code) n (at-if3 .if3 .taken)) (c .ended .ensures)
 
 returns-2 : tie.Need-returns-2
 unfolding known
 returns-2 c =
-    let at-if3 = c .before .before .before in
+    let at-if3 = c .before .before in
     let at-if2 = at-if3 .before in
     let start = at-if2 .before .before in
     let n = start .args .operand in
-    let l : length (now (start .args .row)) ≡ 7 = start .pre .3 in
-    acts _ _ _ _ _ _ _ _ l (fold-known (start .args .code) n (at-if3 .if3 .left) (at-if2 .if2 .taken)) (c .before .fold .ensures)
+    let l : length (now (start .args .row)) ≡ 7 = start .pre .1 in
+    acts _ _ _ _ _ _ _ l (fold-known (start .args .code) n (at-if3 .if3 .left) (at-if2 .if2 .taken)) (c .fold .ensures)
 
 returns-3 : tie.Need-returns-3
 unfolding known
@@ -39,17 +39,17 @@ returns-3 c =
     let at-if4 = c .before .before .before in
     let start = at-if4 .before .before .before in
     let n = start .args .operand in
-    let l : length (now (start .args .row)) ≡ 7 = start .pre .3 in
-    acts _ _ _ _ _ _ _ (Push n) l (ap (λ (k : ℕ). known (pos k) n) (at-if4 .if4 .taken))
+    let l : length (now (start .args .row)) ≡ 7 = start .pre .1 in
+    acts _ _ _ _ _ _ (Push n) l (ap (λ (k : ℕ). known (pos k) n) (at-if4 .if4 .taken))
     (rw (back {z = n} (start .fits .operand)) at (c .before .push .ensures))
 
 returns-4 : tie.Need-returns-4
 unfolding known
 returns-4 c =
-    let at-if5 = c .before .before .before in
+    let at-if5 = c .before in
     let start = at-if5 .before .before .before .before in
     let n = start .args .operand in
-    acts-on _ _ _ _ _ _ _ Load (ap (λ (k : ℕ). known (pos k) n) (at-if5 .if5 .taken)) (c .before .load .ensures)
+    acts-on _ _ _ _ _ _ Load (ap (λ (k : ℕ). known (pos k) n) (at-if5 .if5 .taken)) (c .load .ensures (now (start .args .stack)))
 
 returns-5 : tie.Need-returns-5
 unfolding known
@@ -60,7 +60,7 @@ returns-5 c =
     let at-if1 = at-if2 .before in
     let start = at-if1 .before in
     let n = start .args .operand in
-    acts-none _ _ _ _ _ _ _
+    acts-none _ _ _ _ _ _
     (after-sub-known (start .args .code) n (at-if2 .if2 .left) (omega (arith, at-if1 .if1 .taken, at-if4 .if4 .left, at-if5 .if5 .left)))
     (c .ended2 .ensures)
 
@@ -70,8 +70,8 @@ returns-6 c =
     let at-if7 = c .before .before in
     let start = at-if7 .before .before .before in
     let n = start .args .operand in
-    let l : length (now (start .args .row)) ≡ 7 = start .pre .3 in
-    acts _ _ _ _ _ _ _ Store l (ap (λ (k : ℕ). known (pos k) n) (at-if7 .if7 .taken)) (c .store .ensures)
+    let l : length (now (start .args .row)) ≡ 7 = start .pre .1 in
+    acts _ _ _ _ _ _ Store l (ap (λ (k : ℕ). known (pos k) n) (at-if7 .if7 .taken)) (c .store .ensures)
 
 returns-7 : tie.Need-returns-7
 unfolding known
@@ -79,8 +79,8 @@ returns-7 c =
     let at-if8 = c .before .before in
     let start = at-if8 .before .before .before .before in
     let n = start .args .operand in
-    let l : length (now (start .args .row)) ≡ 7 = start .pre .3 in
-    acts _ _ _ _ _ _ _ Jump l (ap (λ (k : ℕ). known (pos k) n) (at-if8 .if8 .taken)) (c .jump .ensures)
+    let l : length (now (start .args .row)) ≡ 7 = start .pre .1 in
+    acts _ _ _ _ _ _ Jump l (ap (λ (k : ℕ). known (pos k) n) (at-if8 .if8 .taken)) (c .jump .ensures)
 
 returns-8 : tie.Need-returns-8
 unfolding known
@@ -91,7 +91,7 @@ returns-8 c =
     let at-if1 = at-if6 .before in
     let start = at-if1 .before in
     let n = start .args .operand in
-    let l : length (now (start .args .row)) ≡ 7 = start .pre .3 in
+    let l : length (now (start .args .row)) ≡ 7 = start .pre .1 in
     let e : start .args .code ≡ codeOf (Bnz n) = omega (
       arith,
       at-if1 .if1 .left,
@@ -99,7 +99,7 @@ returns-8 c =
       at-if7 .if7 .left,
       at-if8 .if8 .left,
     ) in
-    acts _ _ _ _ _ _ _ (Bnz n) l (ap (λ (k : ℕ). known (pos k) n) e) (rw (back {z = n} (start .fits .operand)) at (c .bnz .ensures))
+    acts _ _ _ _ _ _ (Bnz n) l (ap (λ (k : ℕ). known (pos k) n) e) (rw (back {z = n} (start .fits .operand)) at (c .bnz .ensures))
 
 returns-9 : tie.Need-returns-9
 unfolding known
@@ -107,7 +107,7 @@ returns-9 c =
     let at-if10 = c .before in
     let start = at-if10 .before .before .before .before in
     let n = start .args .operand in
-    acts-ret _ _ _ _ _ _ _ (ap (λ (k : ℕ). known (pos k) n) (at-if10 .if10 .taken)) (c .ended3 .ensures)
+    acts-ret _ _ _ _ _ _ (ap (λ (k : ℕ). known (pos k) n) (at-if10 .if10 .taken)) (c .ended3 .ensures)
 
 returns-10 : tie.Need-returns-10
 unfolding known
@@ -117,17 +117,17 @@ returns-10 c =
     let at-if6 = at-if9 .before in
     let start = at-if6 .before .before in
     let n = start .args .operand in
-    acts-none _ _ _ _ _ _ _ (after-bnz-known (start .args .code) n (at-if6 .if6 .left) (at-if9 .if9 .taken) (at-if10 .if10 .left))
+    acts-none _ _ _ _ _ _ (after-bnz-known (start .args .code) n (at-if6 .if6 .left) (at-if9 .if9 .taken) (at-if10 .if10 .left))
     (c .ended4 .ensures)
 
 returns-11 : tie.Need-returns-11
 unfolding known
 returns-11 c =
-    let at-if11 = c .before .before .before in
+    let at-if11 = c .before .before in
     let start = at-if11 .before .before .before .before in
     let n = start .args .operand in
-    let l : length (now (start .args .row)) ≡ 7 = start .pre .3 in
-    acts _ _ _ _ _ _ _ _ l (or-known (start .args .code) n (at-if11 .if11 .taken)) (c .before .fold2 .ensures)
+    let l : length (now (start .args .row)) ≡ 7 = start .pre .1 in
+    acts _ _ _ _ _ _ _ l (or-known (start .args .code) n (at-if11 .if11 .taken)) (c .fold2 .ensures)
 
 returns-12 : tie.Need-returns-12
 unfolding known
@@ -135,8 +135,8 @@ returns-12 c =
     let at-if12 = c .before .before .before in
     let start = at-if12 .before .before .before .before .before in
     let n = start .args .operand in
-    let l : length (now (start .args .row)) ≡ 7 = start .pre .3 in
-    acts _ _ _ _ _ _ _ Dup l (ap (λ (k : ℕ). known (pos k) n) (at-if12 .if12 .taken)) (c .before .dup .ensures)
+    let l : length (now (start .args .row)) ≡ 7 = start .pre .1 in
+    acts _ _ _ _ _ _ Dup l (ap (λ (k : ℕ). known (pos k) n) (at-if12 .if12 .taken)) (c .before .dup .ensures)
 
 returns-13 : tie.Need-returns-13
 unfolding known
@@ -144,8 +144,8 @@ returns-13 c =
     let at-if13 = c .before .before .before in
     let start = at-if13 .before .before .before .before .before .before in
     let n = start .args .operand in
-    let l : length (now (start .args .row)) ≡ 7 = start .pre .3 in
-    acts _ _ _ _ _ _ _ Swap l (ap (λ (k : ℕ). known (pos k) n) (at-if13 .if13 .taken)) (c .before .swap .ensures)
+    let l : length (now (start .args .row)) ≡ 7 = start .pre .1 in
+    acts _ _ _ _ _ _ Swap l (ap (λ (k : ℕ). known (pos k) n) (at-if13 .if13 .taken)) (c .before .swap .ensures)
 
 returns-14 : tie.Need-returns-14
 unfolding known
@@ -156,7 +156,7 @@ returns-14 c =
     let at-if9 = at-if11 .before in
     let start = at-if9 .before .before .before in
     let n = start .args .operand in
-    acts-none _ _ _ _ _ _ _
+    acts-none _ _ _ _ _ _
     (past-known (start .args .code) n (omega (arith, at-if9 .if9 .left, at-if11 .if11 .left, at-if12 .if12 .left, at-if13 .if13 .left))
     (start .fits .code .fits))
     (c .ended5 .ensures)
@@ -174,7 +174,6 @@ choose-spec =
     (λ c. search needs)
     returns-3
     (λ c κs. search needs)
-    (λ c. search needs)
     returns-4
     (λ c κs. search needs)
     returns-5

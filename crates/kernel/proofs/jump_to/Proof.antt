@@ -2,7 +2,8 @@
 -- Assumes nothing.
 use borrow.Author.Tests.{lt-ltb, le-ltb, eq-eqb, ne-eqb}
 use mathlib.Core.Path.{_≡_}
-use Rattle.word.proofs.Signed.{back}
+use native.Mathlib.Omega.{arith}
+use Rattle.word.proofs.Signed.{back, back-ok}
 use Rattle.kernel.specs.Words.{wholeOf}
 use borrow.Author.Needs.{needs}
 use Rattle.kernel.proofs.jump_to.Statement.{statement}
@@ -14,12 +15,20 @@ sized-as a = rw (back {z = a .before .args .target} (a .before .fits .target)) a
 
 returns : tie.Need-returns
 returns c =
-    let at-to = c .before .before .before in
-    rw (← sized-as (at-to .before .before), at-to .to .given .1, lt-ltb _ _ (c .before .if1 .taken), c .gone .ensures)
+    let at-if1 = c .before .before in
+    let at-to = at-if1 .before .before .before in
+    let at-sized = at-to .before .before in
+    rw (
+      ← sized-as at-sized,
+      at-to .to .given .1,
+      lt-ltb _ _ (at-if1 .if1 .taken),
+      c .gone .ensures,
+      back-ok (at-sized .before .args .s .top) (omega (arith, c .before .struct-told .given)),
+    )
 
 returns-2 : tie.Need-returns-2
 returns-2 c =
-    let at-to = c .before .before .before in
+    let at-to = c .before .before .before .before in
     rw (← sized-as (at-to .before .before), at-to .to .given .1, le-ltb _ _ (c .before .if1 .left), c .ended .ensures)
 
 returns-3 : tie.Need-returns-3
