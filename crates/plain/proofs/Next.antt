@@ -3,7 +3,7 @@
 use mathlib.Core.Path.{_≡_, refl, ap, _∙_}
 use mathlib.Core.Bool.{Bool, true, false}
 use mathlib.Core.List.{List}
-use Prim.Native.Nat.{ℕ, _+_, _<_, _≤_}
+use Prim.Native.Nat.{ℕ, _+_, _-_, _<_, _≤_}
 use native.Mathlib.Omega.{arith}
 use lib.IntN.{ℤ, pos}
 use lib.Dec.{ltb, eqb}
@@ -35,25 +35,30 @@ index-after z n i few e h =
     let s : Signed 64 (pos (i + 1)) = omega arith in
     rw (index-found z n i e .0, addWrap-id (pos i) (pos 1) s, lt-ltb (i + 1) n h)
 
-module _ (count room fuel : ℕ) (program : List ℤ) (l₀ : Lent) (o₀ : Output) where
-  -- going on with the command that is chosen, after so many steps or one more
-  pub record Chose (l : Lent) (o : Output) (steps : ℕ) (a : Ready) : Type 0 where
-    pub since : steps ≤ a .next .steps
-    pub acting : Acting standardRuler count room fuel program tt l₀ o₀
-        (a .next .word) (a .next .operand) (a .next .machine) tt (lent (a .stack) (l .cells)) o (a .next .steps)
+-- a step more is one less of the allowance
+pub one-less : (fuel left : ℕ) → 0 < left → left ≤ fuel → fuel - left + 1 ≡ fuel - (left - 1)
+one-less fuel left h k = omega arith
 
-  module _ (m : Machine) (l : Lent) (o : Output) (steps : ℕ) (g : Going standardRuler count room fuel program tt l₀ o₀ m tt l o steps)
-      (h : steps < fuel) (i : ℕ) (e : indexOf (m .pc .0) count ≡ At i) (few : count ≤ 4096) where
+module _ (count room fuel : ℕ) (program : List ℤ) (l₀ : Lent) (o₀ : Output) where
+  -- going on with the command that is chosen, with so much of the allowance left or one less
+  pub record Chose (l : Lent) (o : Output) (left : ℕ) (a : Ready) : Type 0 where
+    pub since : a .next .left ≤ left
+    pub acting : Acting standardRuler count room fuel program tt l₀ o₀
+        (a .next .word) (a .next .operand) (a .next .machine) tt (lent (a .stack) (l .cells)) o (fuel - a .next .left)
+
+  module _ (m : Machine) (l : Lent) (o : Output) (left : ℕ) (k : left ≤ fuel)
+      (g : Going standardRuler count room fuel program tt l₀ o₀ m tt l o (fuel - left))
+      (h : 0 < left) (i : ℕ) (e : indexOf (m .pc .0) count ≡ At i) (few : count ≤ 4096) where
     abbrev over : Machine
     over = following (pushed m) (m .label .0)
 
     abbrev stack : List ℤ
     stack = pushedStack m (l .stack) (pos 0) (operandAt program i) bottom
 
-    here : Acting standardRuler count room fuel program tt l₀ o₀ (wordAt program i) (operandAt program i) m tt l o steps
-    here = going-at standardRuler count room fuel program tt l₀ o₀ m tt l o steps g h i e
+    here : Acting standardRuler count room fuel program tt l₀ o₀ (wordAt program i) (operandAt program i) m tt l o (fuel - left)
+    here = going-at standardRuler count room fuel program tt l₀ o₀ m tt l o _ g (omega arith) i e
 
-    module _ (c : eqb (residue 64 (wordAt program i)) 5 ≡ true) (d : ltb (m .depth) 256 ≡ true) where
+    module _ (d : ltb (m .depth) 256 ≡ true) (c : eqb (residue 64 (wordAt program i)) 5 ≡ true) where
       push-goes : acted (after (outcome over carriedOut) (lent stack (l .cells))) tt
           ≡ actOf standardRuler (wordAt program i) (operandAt program i) m tt l
       unfolding findOf standardBy effectOf pushEffect
@@ -66,27 +71,27 @@ module _ (count room fuel : ℕ) (program : List ℤ) (l₀ : Lent) (o₀ : Outp
       unfolding following gone pushed
       push-place = rw d
 
-      chose-over : ltb (steps + 1) fuel ≡ true → ltb (i + 1) count ≡ true
-          → Chose l o steps (ready (chosen over (wordAt program (i + 1)) (operandAt program (i + 1)) (steps + 1)) stack)
+      chose-over : ltb 1 left ≡ true → ltb (i + 1) count ≡ true
+          → Chose l o left (ready (chosen over (wordAt program (i + 1)) (operandAt program (i + 1)) (left - 1)) stack)
       unfolding emitOf
       chose-over f b =
           let on =
-          going-on standardRuler count room fuel program tt l₀ o₀ (wordAt program i) (operandAt program i) m tt l o steps here
+          going-on standardRuler count room fuel program tt l₀ o₀ (wordAt program i) (operandAt program i) m tt l o _ here
           _ push-goes (went over carriedOut) o refl refl in
           let at = ap (λ z. indexOf z count) push-place ∙ index-after (m .pc .0) count i few e (ltb-true (i + 1) count b) in
           record {
             since = omega arith;
-            acting = going-at standardRuler count room fuel program tt l₀ o₀ over tt (lent stack (l .cells)) o (steps + 1) on
-                (ltb-true (steps + 1) fuel f) (i + 1) at;
+            acting = going-at standardRuler count room fuel program tt l₀ o₀ over tt (lent stack (l .cells)) o _
+                (rw (one-less fuel left h k) at on) (omega (arith, ltb-true 1 left f)) (i + 1) at;
           }
 
-    pub going-next : Chose l o steps (nextOf count fuel program i m steps (l .stack))
+    pub going-next : Chose l o left (nextOf count program i m left (l .stack))
     unfolding nextOf
-    going-next = either _ (λ c. either _ (λ d. either _ (λ f. either _ (λ b. chose-over c d f b))))
+    going-next = either _ (λ d. either _ (λ c. either _ (λ f. either _ (λ b. chose-over d c f b))))
       where
         stays : Ready
-        stays = ready (chosen m (wordAt program i) (operandAt program i) steps) (l .stack)
+        stays = ready (chosen m (wordAt program i) (operandAt program i) left) (l .stack)
 
-        either : (b : Bool) {x : Ready} → (b ≡ true → Chose l o steps x) → Chose l o steps (choose b x stays)
+        either : (b : Bool) {x : Ready} → (b ≡ true → Chose l o left x) → Chose l o left (choose b x stays)
         either true f = f refl
         either false f = record { since = omega arith; acting = here }

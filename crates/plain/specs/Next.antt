@@ -1,5 +1,5 @@
 -- The command that the loop carries out next: a Push is carried out with the command after it.
-use Prim.Native.Nat.{ℕ, _+_}
+use Prim.Native.Nat.{ℕ, _+_, _-_}
 use mathlib.Core.List.{List}
 use lib.IntN.{ℤ, pos}
 use lib.Dec.{ltb, eqb}
@@ -19,20 +19,21 @@ pub record Ready : Type 0 where
 abbrev pub ready : Chosen → List ℤ → Ready
 ready n stack = record { next = n; stack = stack }
 
+-- `left` is the allowance that is left, before the command
 abbrev pub chosen : Machine → ℤ → ℤ → ℕ → Chosen
-chosen m word operand steps = record { machine = m; word = word; operand = operand; steps = steps }
+chosen m word operand left = record { machine = m; word = word; operand = operand; left = left }
 
 -- the command at an index; and where that is a Push with room, and a command and an allowance for it follow, that one, with the Push done
-unfoldable pub nextOf : (count fuel : ℕ) → List ℤ → ℕ → Machine → ℕ → List ℤ → Ready
-nextOf count fuel program i m steps stack =
-    let here = ready (chosen m (wordAt program i) (operandAt program i) steps) stack in
+unfoldable pub nextOf : (count : ℕ) → List ℤ → ℕ → Machine → ℕ → List ℤ → Ready
+nextOf count program i m left stack =
+    let here = ready (chosen m (wordAt program i) (operandAt program i) left) stack in
     let over = following (pushed m) (m .label .0) in
-    choose (eqb (residue 64 (wordAt program i)) 5)
-    (choose (ltb (m .depth) 256)
-    (choose (ltb (steps + 1) fuel)
+    choose (ltb (m .depth) 256)
+    (choose (eqb (residue 64 (wordAt program i)) 5)
+    (choose (ltb 1 left)
     (choose (ltb (i + 1) count)
     (ready
-    (chosen over (wordAt program (i + 1)) (operandAt program (i + 1)) (steps + 1))
+    (chosen over (wordAt program (i + 1)) (operandAt program (i + 1)) (left - 1))
     (pushedStack m stack (pos 0) (operandAt program i) bottom))
     here)
     here)

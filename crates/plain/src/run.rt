@@ -30,41 +30,33 @@ fn place_in(pc: Pc, count: usize) -> Index
     }
 }
 
-// The command to be carried out next, and the run as far as it.
+// The command to be carried out next, the run as far as it, and the allowance that is left before it.
 struct Chosen {
     machine: Machine,
     word: i64,
     operand: i64,
-    steps: u64,
+    left: u64,
 }
 
 // The command at an index; and where that is a Push with room, and a command and an allowance for it follow, that one, with the Push done.
-fn next(
-    count: usize,
-    fuel: u64,
-    program: &[i64],
-    i: usize,
-    m: Machine,
-    steps: u64,
-    stack: &mut [i64],
-) -> Chosen
-    requires { ⌜ (i < count) × (count ≤ 4096) × (2 * count ≤ length (now program)) × (steps < fuel) ⌝ }
-    ensures { λ r. ⌜ ready r (now (stack .exit)) ≡ nextOf count fuel (now (program .entry)) i m steps (now (stack .entry)) ⌝ }
+fn next(count: usize, program: &[i64], i: usize, m: Machine, left: u64, stack: &mut [i64]) -> Chosen
+    requires { ⌜ (i < count) × (count ≤ 4096) × (2 * count ≤ length (now program)) ⌝ }
+    ensures { λ r. ⌜ ready r (now (stack .exit)) ≡ nextOf count (now (program .entry)) i m left (now (stack .entry)) ⌝ }
 {
     let word = program[2 * i];
     let operand = program[2 * i + 1];
     let depth = m.depth;
     let place = m.label;
-    if word::wrap::to_bits(word) == 5 {
-        if depth < 256 {
-            if steps + 1 < fuel {
+    if depth < 256 {
+        if word::wrap::to_bits(word) == 5 {
+            if 1 < left {
                 if i + 1 < count {
                     let over = m.push(stack, 0, operand, Label::EMPTY);
                     return Chosen {
                         machine: over.following(place),
                         word: program[2 * i + 2],
                         operand: program[2 * i + 3],
-                        steps: steps + 1,
+                        left: left - 1,
                     };
                 }
             }
@@ -74,12 +66,13 @@ fn next(
         machine: m,
         word,
         operand,
-        steps,
+        left,
     }
 }
 
 // Runs a loaded program of `count` commands from the start, for at most `fuel` steps. What it needs of the lent runs is tested once more,
-// here where the compiler sees it: it then leaves the tests of lengths out of the loop.
+// here where the compiler sees it: it then leaves the tests of lengths out of the loop. The allowance is counted down, so that the loop
+// carries one value less than with the steps counted up to it.
 pub(crate) fn go(
     count: usize,
     room: usize,
@@ -101,20 +94,20 @@ pub(crate) fn go(
         (output (now (numbers .entry)) (now («line_labels» .entry))) ⌝ }
 {
     let mut m = Machine::start();
-    let mut steps: u64 = 0;
+    let mut left: u64 = fuel;
     if !((768 <= stack.len()) & ((values.len() <= 1024) & (values.len() == labels.len()))) {
         return Ran {
             machine: m,
             stop: 1,
-            steps,
+            steps: 0,
         };
     }
-    while steps < fuel {
+    while 0 < left {
         let place = place_in(m.pc, count);
         match place {
             Index::At(i) => {
-                let n = next(count, fuel, program, i, m, steps, stack);
-                steps = n.steps;
+                let n = next(count, program, i, m, left, stack);
+                left = n.left;
                 let before = n.machine;
                 let r = act(n.word, n.operand, before, stack, values, labels);
                 let w = engine::emit(before, r, room, numbers, line_labels);
@@ -124,18 +117,18 @@ pub(crate) fn go(
                     return Ran {
                         machine,
                         stop,
-                        steps,
+                        steps: fuel - left,
                     };
                 }
                 m = machine;
-                steps += 1;
+                left -= 1;
             }
             Index::Outside => {
                 let stop = engine::end_or(m, count, 2);
                 return Ran {
                     machine: m,
                     stop,
-                    steps,
+                    steps: fuel - left,
                 };
             }
         }
@@ -144,6 +137,6 @@ pub(crate) fn go(
     Ran {
         machine: m,
         stop,
-        steps,
+        steps: fuel - left,
     }
 }

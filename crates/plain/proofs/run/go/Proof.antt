@@ -1,6 +1,7 @@
 -- `plain::run::go` meets its contract. The loop's invariant: what is left to run, from where it stands, equals the whole run.
 -- The measure is the allowance that is left. Assumes nothing.
 use borrow.Author.Needs.{needs}
+use native.Mathlib.Nat.{sub-self}
 use native.Mathlib.Omega.{arith}
 use mathlib.Core.Path.{_≡_, _∙_, sym, ap, ap₂}
 use Prim.Native.Nat.{ℕ, _-_, _<_, _≤_}
@@ -22,20 +23,20 @@ use Rattle.engine.proofs.Going.{SameLengths, same-start, same-on, Going}
 use Rattle.engine.proofs.Going.{going-start, going-end, going-outside, going-stopped, going-on}
 use Rattle.plain.specs.Ruler.{standardRuler}
 use Rattle.plain.specs.Next.{Ready, ready}
-use Rattle.plain.proofs.Next.{Chose, going-next}
+use Rattle.plain.proofs.Next.{one-less, Chose, going-next}
 use Rattle.plain.proofs.run.go.Statement.{statement}
 use Rattle.plain.proofs.run.go.Tie as tie
 
 abbrev Inv-loop : tie.InvT-loop
-Inv-loop count room fuel program stack₀ values₀ labels₀ numbers₀ lines₀ m₀ steps₀ stack values labels numbers lines m steps =
+Inv-loop count room fuel program stack₀ values₀ labels₀ numbers₀ lines₀ m₀ left₀ stack values labels numbers lines m left =
     let l₀ = lent stack₀ (cells values₀ labels₀) in
     let o₀ = output numbers₀ lines₀ in
     let l = lent stack (cells values labels) in
     let o = output numbers lines in
-    Going standardRuler count room fuel program tt l₀ o₀ m tt l o steps × SameLengths l o l₀ o₀
+    (left ≤ fuel) × Going standardRuler count room fuel program tt l₀ o₀ m tt l o (fuel - left) × SameLengths l o l₀ o₀
 
 abbrev μ-loop : tie.MeasureT-loop
-μ-loop count room fuel program stack₀ values₀ labels₀ numbers₀ lines₀ m₀ steps₀ stack values labels numbers lines m steps = fuel - steps
+μ-loop count room fuel program stack₀ values₀ labels₀ numbers₀ lines₀ m₀ left₀ stack values labels numbers lines m left = left
 
 -- the lent runs as they came
 abbrev given : tie.Start Inv-loop μ-loop → Lent
@@ -59,7 +60,7 @@ module _ (a : tie.After-known-told Inv-loop μ-loop) where
   abbrev start : tie.Start Inv-loop μ-loop
   start = head .before .before .before
 
-  taken : head .loop .steps < start .args .fuel
+  taken : 0 < head .loop .left
   taken = a .before .before .before .before .loop-test .taken
 
   -- its index
@@ -85,13 +86,17 @@ module _ (a : tie.After-machine Inv-loop μ-loop) where
 
   -- the command that was chosen
   abbrev choice : Ready
-  choice = ready (chose .next .result) (chose .next .last .1 .1 .1 .1 .1 .1 .0)
+  choice = ready (chose .next .result) (chose .next .last .1 .1 .1 .1 .1 .0)
 
   chosen : Chose (start found .args .count) (start found .args .room) (start found .args .fuel) (now (start found .args .program))
-      (given (start found)) (space (start found)) (runs (head found)) (lines (head found)) (head found .loop .steps) choice
+      (given (start found)) (space (start found)) (runs (head found)) (lines (head found)) (head found .loop .left) choice
   chosen =
       rw (chose .next .ensures)
-      (going-next _ _ _ _ _ _ _ _ _ _ (head found .loop .inv .0) (taken found) _ (place found) (start found .pre .0))
+      (going-next _ _ _ _ _ _ _ _ _ _ (head found .loop .inv .0) (head found .loop .inv .1)
+      (taken found) _ (place found) (start found .pre .0))
+
+  within : choice .next .left ≤ start found .args .fuel
+  within = omega (arith, chosen .since, head found .loop .inv .0)
 
   -- the lent runs after it
   abbrev last : Lent
@@ -121,13 +126,13 @@ module _ (a : tie.After-machine Inv-loop μ-loop) where
       let y = wrote .emit .kept .1 .1 .1 in
       same-on
       (record {
-        stack = x .0 ∙ chose .next .kept .1 .1 .1 .1 .1 .1 .0;
+        stack = x .0 ∙ chose .next .kept .1 .1 .1 .1 .1 .0;
         values = x .1 .0;
         labels = x .1 .1 .0;
         numbers = y .0;
         lineLabels = y .1 .0;
       })
-      (head found .loop .inv .1)
+      (head found .loop .inv .2)
 
 -- the three tests hold
 tests : (stack values labels : ℕ) → 768 ≤ stack → values ≤ 1024 → values ≡ labels
@@ -143,7 +148,9 @@ returns c =
     never (cc)
 
 loop-holds : tie.Need-loop-holds Inv-loop μ-loop
-loop-holds c = rw (c .before .start .ensures) (going-start _ _ _ _ _ _ _ _, same-start _ _)
+loop-holds c =
+    rw (c .before .start .ensures, sub-self (c .before .before .args .fuel))
+    (omega arith, going-start _ _ _ _ _ _ _ _, same-start _ _)
 
 place-in-requires : tie.Need-place-in-requires Inv-loop μ-loop
 place-in-requires c κs = c .before .before .before .before .pre .0
@@ -151,34 +158,29 @@ place-in-requires c κs = c .before .before .before .before .pre .0
 next-requires : tie.Need-next-requires Inv-loop μ-loop
 next-requires c κs =
     let a = c .before in
-    (index-found _ _ _ (place a) .1, start a .pre .0, start a .pre .1, taken a)
+    (index-found _ _ _ (place a) .1, start a .pre .0, start a .pre .1)
 
 returns-2 : tie.Need-returns-2 Inv-loop μ-loop
 returns-2 c =
     let a = c .before in
     going-stopped _ _ _ _ _ _ _ _ _ _ _ _ _ _ _ (chosen a .acting) _ (step a) _ _ (wrote a .emit .ensures) (c .if2 .taken)
 
-add-steps : tie.Need-add-steps Inv-loop μ-loop
-add-steps c = let a = c .before in record { fits = omega (arith, chosen a .acting .below, start (found a) .fits .fuel) }
-
-loop-less : tie.Need-loop-less Inv-loop μ-loop
-loop-less c = let a = c .before in omega (arith, taken (found a), chosen a .since)
-
 loop-again : tie.Need-loop-again Inv-loop μ-loop
 loop-again c =
     let a = c .before in
-    (going-on _ _ _ _ _ _ _ _ _ _ _ _ _ _ _ (chosen a .acting) _ (step a) _ _ (wrote a .emit .ensures) (c .if2 .left), same a)
+    let x = chosen a in
+    let on = going-on _ _ _ _ _ _ _ _ _ _ _ _ _ _ _ (x .acting) _ (step a) _ _ (wrote a .emit .ensures) (c .if2 .left) in
+    (omega (arith, within a), rw (one-less _ _ (omega arith) (within a)) at on, same a)
 
 returns-3 : tie.Need-returns-3 Inv-loop μ-loop
 returns-3 c =
     let l = c .before .before .before .before .before in
     rw (c .end-or .ensures)
-    (going-outside _ _ _ _ _ _ _ _ _ _ _ _ _ (l .loop .inv .0) (c .before .before .before .before .loop-test .taken)
+    (going-outside _ _ _ _ _ _ _ _ _ _ _ _ _ (l .loop .inv .1) (omega arith)
     (sym (c .before .before .before .place-in .ensures) ∙ c .before .enum-told .given .1))
 
 returns-4 : tie.Need-returns-4 Inv-loop μ-loop
-returns-4 c = rw (c .end-or2 .ensures)
-    (going-end _ _ _ _ _ _ _ _ _ _ _ _ _ (c .before .before .loop .inv .0) (c .before .loop-test .left))
+returns-4 c = rw (c .end-or2 .ensures) (going-end _ _ _ _ _ _ _ _ _ _ _ _ _ (c .before .before .loop .inv .1) (omega arith))
 
 pub go-spec : {M : Type 1} → statement M
 go-spec =
@@ -194,27 +196,30 @@ go-spec =
     next-requires
     (λ c κs. search needs)
     (λ c κs. search needs)
+    (λ c. within (c .before))
     (λ c. same (c .before) .stack)
     (λ c. same (c .before) .values)
     (λ c. same (c .before) .labels)
     (λ c. same (c .before) .numbers)
     (λ c. same (c .before) .lineLabels)
     returns-2
-    add-steps
-    loop-less
+    (λ c. let x = chosen (c .before) in omega arith)
+    (λ c. let x = chosen (c .before) in omega arith)
     loop-again
     (λ c. search needs)
     (λ c κs. search needs)
-    (λ c. c .before .before .before .before .before .loop .inv .1 .stack)
-    (λ c. c .before .before .before .before .before .loop .inv .1 .values)
-    (λ c. c .before .before .before .before .before .loop .inv .1 .labels)
-    (λ c. c .before .before .before .before .before .loop .inv .1 .numbers)
-    (λ c. c .before .before .before .before .before .loop .inv .1 .lineLabels)
+    (λ c. search needs)
+    (λ c. c .before .before .before .before .before .loop .inv .2 .stack)
+    (λ c. c .before .before .before .before .before .loop .inv .2 .values)
+    (λ c. c .before .before .before .before .before .loop .inv .2 .labels)
+    (λ c. c .before .before .before .before .before .loop .inv .2 .numbers)
+    (λ c. c .before .before .before .before .before .loop .inv .2 .lineLabels)
     returns-3
     (λ c κs. search needs)
-    (λ c. c .before .before .loop .inv .1 .stack)
-    (λ c. c .before .before .loop .inv .1 .values)
-    (λ c. c .before .before .loop .inv .1 .labels)
-    (λ c. c .before .before .loop .inv .1 .numbers)
-    (λ c. c .before .before .loop .inv .1 .lineLabels)
+    (λ c. search needs)
+    (λ c. c .before .before .loop .inv .2 .stack)
+    (λ c. c .before .before .loop .inv .2 .values)
+    (λ c. c .before .before .loop .inv .2 .labels)
+    (λ c. c .before .before .loop .inv .2 .numbers)
+    (λ c. c .before .before .loop .inv .2 .lineLabels)
     returns-4)
