@@ -37,12 +37,12 @@ use Rattle.handler.proofs.Space.{handleSpace-laid}
 use Rattle.tagging.specs.Consult.{Tag, tagRuler}
 use Rattle.tagging.proofs.Ruled.{rules-range}
 use Rattle.tagged.specs.Ruling.{tagWords}
-use Rattle.tagged.specs.Start.{tableLimit, ownOf}
+use Rattle.tagged.specs.Start.{rulesLimit, ownOf}
 use Rattle.tagged.specs.Tagged.{left, tagOf, handlerAfter, taggedOf, tagged}
 use Rattle.tagged.proofs.Following.{tag-follows}
 
 -- a table that is kept
-table-kept : (q : ReadTable) → tableLimit q ≡ Kept → (t : Table) × (q ≡ table t)
+table-kept : (q : ReadTable) → rulesLimit q ≡ Kept → (t : Table) × (q ≡ table t)
 table-kept (Read.refused r) e = never (cc)
 table-kept (table t) e = (t, refl)
 

@@ -24,16 +24,16 @@ use Rattle.handler.specs.Translate.{handlerOf}
 use Rattle.translator.specs.Emit.{tableCode}
 use Rattle.translator.proofs.Translating.{accepted-handler, refused-handler}
 use Rattle.tagged.specs.declared.start.Found.{Found}
-use Rattle.tagged.specs.Start.{tableLimit, rowLimit, handlerLimit, foundOf}
+use Rattle.tagged.specs.Start.{rulesLimit, rowLimit, handlerLimit, foundOf}
 
 -- check 6
-table-kept : (q : ReadTable) → checkAnswer q ≡ Checked.Accepted → tableLimit q ≡ Kept
-table-kept (refused r) e = never (cc)
-table-kept (table t) e = refl
+rules-kept : (q : ReadTable) → checkAnswer q ≡ Checked.Accepted → rulesLimit q ≡ Kept
+rules-kept (refused r) e = never (cc)
+rules-kept (table t) e = refl
 
-table-broken : (q : ReadTable) (r : Refusal) → checkAnswer q ≡ Checked.Refused r → tableLimit q ≡ Broken r
-table-broken (refused p) r e = cc
-table-broken (table t) r e = never (cc)
+rules-broken : (q : ReadTable) (r : Refusal) → checkAnswer q ≡ Checked.Refused r → rulesLimit q ≡ Broken r
+rules-broken (refused p) r e = cc
+rules-broken (table t) r e = never (cc)
 
 abbrev found : Limit → Limit → Limit → ℕ → Found
 found rules row handler size = record { own = record { rules = rules; row = row; handler = handler }; size = size }
@@ -55,7 +55,7 @@ module _ (bytes : List ℕ) (ws : List ℤ) (words : ℕ) (i : Inspected) (is : 
       let size-is : size ≡ length (handlerOf rules) = s ∙ ap length (accepted-handler bytes (answer ∙ e)) in
       let half = ap (λ n. leb n (words / 2)) size-is ∙ leb-half (length (handlerOf rules)) words in
       let handler-is : handler ≡ handlerLimit rules words = h ∙ ap (λ b. keptIf b (refusal 8 3)) half in
-      rw (row-is, handler-is, size-is, table-kept rules (answer ∙ e))
+      rw (row-is, handler-is, size-is, rules-kept rules (answer ∙ e))
 
   pub found-refused : (r : Refusal) → i .table ≡ Checked.Refused r → found (Broken r) row Kept 0 ≡ foundOf rules ws words
-  found-refused r e = rw (row-is, table-broken rules r (answer ∙ e), refused-handler rules r (answer ∙ e), le-leb 0 words (omega arith))
+  found-refused r e = rw (row-is, rules-broken rules r (answer ∙ e), refused-handler rules r (answer ∙ e), le-leb 0 words (omega arith))

@@ -15,9 +15,9 @@ use Rattle.handler.specs.Translate.{handlerOf}
 use Rattle.tagged.specs.declared.start.Found.{Found}
 
 -- check 6: the rules are no table
-abbrev pub tableLimit : ReadTable → Limit
-tableLimit (refused r) = Broken r
-tableLimit (table t) = Kept
+abbrev pub rulesLimit : ReadTable → Limit
+rulesLimit (refused r) = Broken r
+rulesLimit (table t) = Kept
 
 -- check 7: the rule memory is neither empty nor an allowed row of this table
 abbrev pub rowLimit : ReadTable → List ℤ → Limit
@@ -29,7 +29,7 @@ handlerLimit rules space = keptIf (leb (2 * length (handlerOf rules)) space) (re
 
 -- of the table, the rule memory and the length of the handler space
 abbrev pub ownOf : ReadTable → List ℤ → ℕ → Own
-ownOf rules row space = record { rules = tableLimit rules; row = rowLimit rules row; handler = handlerLimit rules space }
+ownOf rules row space = record { rules = rulesLimit rules; row = rowLimit rules row; handler = handlerLimit rules space }
 
 -- with the handler's length
 abbrev pub foundOf : ReadTable → List ℤ → ℕ → Found
