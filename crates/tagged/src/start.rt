@@ -22,31 +22,23 @@ pub(crate) fn rules(table: &[u8], cache: Cache, words: usize) -> Found
     let seen = tables::row::inspect(table, cache);
     let checked = seen.table;
     let row = kept_if(seen.row, 7, 0);
+    let mut rules = Limit::Kept;
+    let mut size: usize = 0;
     match checked {
         Checked::Accepted => {
-            let size = translator::instructions(table);
-            let handler = kept_if(size <= words / 2, 8, 3);
-            let rules = Limit::Kept;
-            Found {
-                own: Own {
-                    rules,
-                    row,
-                    handler,
-                },
-                size,
-            }
+            size = translator::instructions(table);
         }
         Checked::Refused(r) => {
-            let rules = Limit::Broken(r);
-            let handler = Limit::Kept;
-            Found {
-                own: Own {
-                    rules,
-                    row,
-                    handler,
-                },
-                size: 0,
-            }
+            rules = Limit::Broken(r);
         }
+    }
+    let handler = kept_if(size <= words / 2, 8, 3);
+    Found {
+        own: Own {
+            rules,
+            row,
+            handler,
+        },
+        size,
     }
 }

@@ -1,26 +1,23 @@
 -- `tagged::start::rules` meets its contract, by the check of the table.
 -- Assumes nothing.
+use mathlib.Core.Logic.{⊎-elim}
 use denote.Ref.{now}
-use Rattle.tagged.proofs.Starting.{found-accepted, found-refused}
+use Rattle.tagged.proofs.Starting.{sized-accepted, sized-refused, found-is}
 use borrow.Author.Needs.{needs}
 use Rattle.tagged.proofs.start.rules.Statement.{statement}
 use Rattle.tagged.proofs.start.rules.Tie as tie
 
 returns : tie.Need-returns
 returns c =
-    let k = c .before .before .before .before in
+    let k = c .before .before in
     let a = k .before .before .before .args in
-    found-accepted (now (a .table)) (a .cache .words) (a .words) (k .before .inspect .result) (k .before .inspect .ensures)
-    (k .kept-if .result) (k .kept-if .ensures) (c .before .instructions .result) (c .kept-if2 .result)
-    (c .before .before .enum-told .given .1)
-    (c .before .instructions .ensures) (c .kept-if2 .ensures)
-
-returns-2 : tie.Need-returns-2
-returns-2 c =
-    let k = c .before .before .before in
-    let a = k .before .before .before .args in
-    found-refused (now (a .table)) (a .cache .words) (a .words) (k .before .inspect .result) (k .before .inspect .ensures)
-    (k .kept-if .result) (k .kept-if .ensures) (c .before .checked .given .0 .0) (c .before .checked .given .1)
+    let i = k .before .inspect in
+    found-is (now (a .table)) (a .cache .words) (i .result) (i .ensures) (a .words) _ _ _ _
+    (⊎-elim
+    (λ w. rw (w .3, w .4, w .2 .ensures) (sized-accepted _ _ _ (i .ensures) (w .1 .given .1)))
+    (λ w. rw (w .3, w .4) (sized-refused _ _ _ (i .ensures) _ (w .1 .given .1)))
+    (c .before .match .came))
+    (k .kept-if .ensures) (c .kept-if2 .ensures)
 
 pub rules-spec : {M : Type 1} → statement M
 rules-spec =
@@ -30,7 +27,6 @@ rules-spec =
     (λ c κs. search needs)
     (λ c. search needs)
     (λ c κs. search needs)
-    (λ c κs. search needs)
     (λ c. search needs)
-    returns
-    returns-2)
+    (λ c κs. search needs)
+    returns)
