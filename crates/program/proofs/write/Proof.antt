@@ -40,91 +40,79 @@ shared-slice-read-wide c = c .before .before .loop-test .taken
 fetch-requires : tie.Need-fetch-requires Inv-loop μ-loop
 fetch-requires c κs = c .before .before .before .loop-test .taken
 
--- the loop's head, from the arm of a command
-abbrev head : tie.After-known-told Inv-loop μ-loop → tie.At-loop Inv-loop μ-loop
-head c = c .before .before .before .before .before .before .before .before
+-- a command was fetched, or none
+module _ (f : tie.After-fetch Inv-loop μ-loop) where
+  abbrev head : tie.At-loop Inv-loop μ-loop
+  head = f .before .before .before .before .before
 
--- what was fetched in the arm of a command
-module _ (c : tie.After-known-told Inv-loop μ-loop) where
   abbrev start : tie.Start Inv-loop μ-loop
-  start = head c .before .before
+  start = head .before .before
 
-  taken : head c .loop .at < length (now (start .args .bytes))
-  taken =
-      let at-loop-test = c .before .before .before .before .before .before .before in
-      at-loop-test .loop-test .taken
+  taken : head .loop .at < length (now (start .args .bytes))
+  taken = f .before .before .before .before .loop-test .taken
 
-  free : 2 ≤ length (head c .loop .space) - head c .loop .i
-  free =
-      let at-if1 = c .before .before .before .before .before .before in
-      at-if1 .if1 .left
-
-  is : fetchOf (now (start .args .bytes)) (head c .loop .at) ≡ Is (c .before .fetched .given .0 .0) (c .before .fetched .given .0 .1 .0)
-  is = sym (c .before .before .before .fetch .ensures) ∙ c .before .fetched .given .1
+  free : 2 ≤ length (head .loop .space) - head .loop .i
+  free = f .before .before .before .if1 .left
 
   -- the words of the space take less than 2^63 bytes
-  small : (head c .loop .i + 2) * 8 < 2 ^ 63
-  small = let r = free in let e = head c .loop .inv .same in omega (arith, start .good .1 .0 .1)
+  small : (head .loop .i + 2) * 8 < 2 ^ 63
+  small = let r = free in let e = head .loop .inv .same in omega (arith, start .good .1 .0 .1)
 
-  byte : c .before .before .before .before .wide .result < 256
-  byte =
-      let w = c .before .before .before .before in
-      omega (arith, w .wide .ensures, w .before .shared-slice-known2 .given (head c .loop .at))
+  byte : f .before .wide .result < 256
+  byte = omega (arith, f .before .wide .ensures, f .before .before .shared-slice-known2 .given (head .loop .at))
+
+-- a command was fetched
+module _ (c : tie.After-known-told Inv-loop μ-loop) where
+  abbrev at-fetch : tie.After-fetch Inv-loop μ-loop
+  at-fetch = c .before .before .before
+
+  is : fetchOf (now (start at-fetch .args .bytes)) (head at-fetch .loop .at)
+      ≡ Is (c .before .fetched .given .0 .0) (c .before .fetched .given .0 .1 .0)
+  is = sym (at-fetch .fetch .ensures) ∙ c .before .fetched .given .1
 
 cast-space : tie.Need-cast-space Inv-loop μ-loop
-cast-space c = record { sfits = omega (arith, byte c) }
+cast-space c = record { sfits = omega (arith, byte (at-fetch c)) }
 
 mul-t15 : tie.Need-mul-t15 Inv-loop μ-loop
-mul-t15 c = record { fits = omega (arith, small c) }
+mul-t15 c = record { fits = omega (arith, small (at-fetch c)) }
 
 slice-set-from-space : tie.Need-slice-set-from-space Inv-loop μ-loop
-slice-set-from-space c = omega (arith, free c)
+slice-set-from-space c = omega (arith, free (at-fetch c))
 
 add-operand : tie.Need-add-operand Inv-loop μ-loop
-add-operand c = record { fits = omega (arith, small c) }
+add-operand c = record { fits = omega (arith, small (at-fetch c)) }
 
 mul-operand : tie.Need-mul-operand Inv-loop μ-loop
-mul-operand c = record { fits = omega (arith, small c) }
+mul-operand c = record { fits = omega (arith, small (at-fetch c)) }
 
 slice-set-from-operand : tie.Need-slice-set-from-operand Inv-loop μ-loop
-slice-set-from-operand c = simp length-set (omega (arith, free c))
+slice-set-from-operand c = simp length-set (omega (arith, free (at-fetch c)))
 
 add-i : tie.Need-add-i Inv-loop μ-loop
-add-i c = record { fits = omega (arith, small c) }
+add-i c = record { fits = omega (arith, small (at-fetch c)) }
 
 loop-less : tie.Need-loop-less Inv-loop μ-loop
-loop-less c = omega (arith, writing-forward _ _ _ _ _ (head c .loop .inv) (taken c) (free c) _ _ (is c))
+loop-less c = let f = at-fetch c in omega (arith, writing-forward _ _ _ _ _ (head f .loop .inv) (taken f) (free f) _ _ (is c))
 
 loop-again : tie.Need-loop-again Inv-loop μ-loop
 loop-again c =
+    let f = at-fetch c in
     rw (
-      toZ-pos w64 {n = c .before .before .before .before .wide .result} (omega (arith, byte c)),
-      c .before .before .before .before .wide .ensures,
+      toZ-pos w64 {n = f .before .wide .result} (omega (arith, byte f)),
+      f .before .wide .ensures,
       back-ok (c .before .fetched .given .0 .0) (c .known-told .given .0 .1),
     )
-    (writing-next _ _ _ _ _ (head c .loop .inv) (taken c) (free c) _ _ (is c))
-
-same-length-2 : tie.Need-same-length-2 Inv-loop μ-loop
-same-length-2 c =
-    let at-loop = c .before .before .before .before .before .before .before in
-    at-loop .loop .inv .same
+    (writing-next _ _ _ _ _ (head f .loop .inv) (taken f) (free f) _ _ (is c))
 
 returns-2 : tie.Need-returns-2 Inv-loop μ-loop
 returns-2 c =
-    let t = c .before .before .before .before .before in
-    writing-unknown _ _ _ _ _ (t .before .before .loop .inv) (t .before .loop-test .taken) (t .if1 .left)
-    (sym (c .before .before .fetch .ensures) ∙ c .enum-told .given .1)
-
-same-length-3 : tie.Need-same-length-3 Inv-loop μ-loop
-same-length-3 c =
-    let at-loop = c .before .before .before .before .before .before .before in
-    at-loop .loop .inv .same
+    let f = c .before .before in
+    writing-unknown _ _ _ _ _ (head f .loop .inv) (taken f) (free f) (sym (f .fetch .ensures) ∙ c .enum-told .given .1)
 
 returns-3 : tie.Need-returns-3 Inv-loop μ-loop
 returns-3 c =
-    let t = c .before .before .before .before .before in
-    writing-cut _ _ _ _ _ (t .before .before .loop .inv) (t .before .loop-test .taken) (t .if1 .left)
-    (sym (c .before .before .fetch .ensures) ∙ c .enum-told2 .given .1)
+    let f = c .before .before in
+    writing-cut _ _ _ _ _ (head f .loop .inv) (taken f) (free f) (sym (f .fetch .ensures) ∙ c .enum-told2 .given .1)
 
 same-length-4 : tie.Need-same-length-4 Inv-loop μ-loop
 same-length-4 c = c .before .loop .inv .same
@@ -156,10 +144,10 @@ write-spec =
     loop-less
     loop-again
     (λ c. search needs)
-    same-length-2
+    (λ c. head (c .before .before) .loop .inv .same)
     returns-2
     (λ c. search needs)
-    same-length-3
+    (λ c. head (c .before .before) .loop .inv .same)
     returns-3
     same-length-4
     returns-4)

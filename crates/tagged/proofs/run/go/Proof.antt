@@ -57,6 +57,17 @@ runs h = lent (h .loop .stack) (cells (h .loop .values) (h .loop .labels))
 abbrev written : tie.At-loop Inv-loop μ-loop → Output
 written h = output (h .loop .numbers) (h .loop .line-labels)
 
+-- the line's writing, where the run ends with the command and where it goes on
+abbrev ending : tie.After-ended Inv-loop μ-loop → tie.After-emit Inv-loop μ-loop
+ending c = c .before .before .before .before .before .before .before .before
+
+abbrev going : tie.Else1 Inv-loop μ-loop → tie.After-emit Inv-loop μ-loop
+going c = c .before .before .before .before .before .before .before
+
+-- the loop's head, where the place is outside
+abbrev outside : tie.After-enum-told Inv-loop μ-loop → tie.At-loop Inv-loop μ-loop
+outside c = c .before .before .before .before
+
 -- a command stands at the place
 module _ (k : tie.After-known-told Inv-loop μ-loop) where
   abbrev head : tie.At-loop Inv-loop μ-loop
@@ -171,99 +182,34 @@ add-kernel c =
     let e = c .before .before .before .before .before .before in
     record { fits = steps-fit (head (found e) .loop .inv .2) (adds-few e) (start (found e) .pre .1) (below e) }
 
-same-length : tie.Need-same-length Inv-loop μ-loop
-same-length c =
-    let at-emit = c .before .before .before .before .before .before .before .before in
-    same at-emit .stack
-
-same-length-2 : tie.Need-same-length-2 Inv-loop μ-loop
-same-length-2 c =
-    let at-emit = c .before .before .before .before .before .before .before .before in
-    same at-emit .values
-
-same-length-3 : tie.Need-same-length-3 Inv-loop μ-loop
-same-length-3 c =
-    let at-emit = c .before .before .before .before .before .before .before .before in
-    same at-emit .labels
-
-same-length-4 : tie.Need-same-length-4 Inv-loop μ-loop
-same-length-4 c =
-    let at-emit = c .before .before .before .before .before .before .before .before in
-    same at-emit .numbers
-
-same-length-5 : tie.Need-same-length-5 Inv-loop μ-loop
-same-length-5 c =
-    let at-emit = c .before .before .before .before .before .before .before .before in
-    same at-emit .lineLabels
-
 returns : tie.Need-returns Inv-loop μ-loop
 returns c =
-    let e = c .before .before .before .before .before .before .before .before in
+    let e = ending c in
     left-as (c .ended .result) (last e) (lines e) (c .ended .ensures)
     (going-stopped _ _ _ _ _ _ _ _ _ _ _ _ _ _ _ (acting e) (acts e) (does e) (e .emit .result) (lines e) (e .emit .ensures)
     (c .before .if1 .taken))
 
 add-steps : tie.Need-add-steps Inv-loop μ-loop
-add-steps c = let e = c .before .before .before .before .before .before .before in record { fits = omega (arith, below e) }
+add-steps c = record { fits = omega (arith, below (going c)) }
 
 loop-less : tie.Need-loop-less Inv-loop μ-loop
-loop-less c = let e = c .before .before .before .before .before .before .before in omega (arith, taken (found e))
+loop-less c = omega (arith, taken (found (going c)))
 
 loop-again : tie.Need-loop-again Inv-loop μ-loop
 loop-again c =
-    let e = c .before .before .before .before .before .before .before in (
+    let e = going c in (
       going-on _ _ _ _ _ _ _ _ _ _ _ _ _ _ _ (acting e) (acts e) (does e) (e .emit .result) (lines e) (e .emit .ensures) (c .if1 .left),
       same e,
       few-more (head (found e) .loop .inv .2) (adds-few e),
     )
 
-same-length-6 : tie.Need-same-length-6 Inv-loop μ-loop
-same-length-6 c =
-    let at-loop = c .before .before .before .before .before .before in
-    at-loop .loop .inv .1 .stack
-
-same-length-7 : tie.Need-same-length-7 Inv-loop μ-loop
-same-length-7 c =
-    let at-loop = c .before .before .before .before .before .before in
-    at-loop .loop .inv .1 .values
-
-same-length-8 : tie.Need-same-length-8 Inv-loop μ-loop
-same-length-8 c =
-    let at-loop = c .before .before .before .before .before .before in
-    at-loop .loop .inv .1 .labels
-
-same-length-9 : tie.Need-same-length-9 Inv-loop μ-loop
-same-length-9 c =
-    let at-loop = c .before .before .before .before .before .before in
-    at-loop .loop .inv .1 .numbers
-
-same-length-10 : tie.Need-same-length-10 Inv-loop μ-loop
-same-length-10 c =
-    let at-loop = c .before .before .before .before .before .before in
-    at-loop .loop .inv .1 .lineLabels
-
 returns-2 : tie.Need-returns-2 Inv-loop μ-loop
 returns-2 c =
-    let h = c .before .before .before .before .before .before in
+    let h = outside (c .before .before) in
     left-as (c .ended2 .result) (runs h) (written h) (c .ended2 .ensures)
     (rw (c .before .end-or .ensures)
     (going-outside _ _ _ _ _ _ _ _ _ _ _ _ _ (h .loop .inv .0) (c .before .before .before .before .before .loop-test .taken)
     (sym (c .before .before .before .before .index .ensures) ∙ c .before .before .enum-told .given .1)))
-
-same-length-11 : tie.Need-same-length-11 Inv-loop μ-loop
-same-length-11 c = c .before .before .before .loop .inv .1 .stack
-
-same-length-12 : tie.Need-same-length-12 Inv-loop μ-loop
-same-length-12 c = c .before .before .before .loop .inv .1 .values
-
-same-length-13 : tie.Need-same-length-13 Inv-loop μ-loop
-same-length-13 c = c .before .before .before .loop .inv .1 .labels
-
-same-length-14 : tie.Need-same-length-14 Inv-loop μ-loop
-same-length-14 c = c .before .before .before .loop .inv .1 .numbers
-
-same-length-15 : tie.Need-same-length-15 Inv-loop μ-loop
-same-length-15 c = c .before .before .before .loop .inv .1 .lineLabels
 
 returns-3 : tie.Need-returns-3 Inv-loop μ-loop
 returns-3 c =
@@ -291,11 +237,11 @@ go-spec =
     add-faults
     add-kernel
     (λ c κs. search needs)
-    same-length
-    same-length-2
-    same-length-3
-    same-length-4
-    same-length-5
+    (λ c. same (ending c) .stack)
+    (λ c. same (ending c) .values)
+    (λ c. same (ending c) .labels)
+    (λ c. same (ending c) .numbers)
+    (λ c. same (ending c) .lineLabels)
     returns
     add-steps
     loop-less
@@ -303,17 +249,17 @@ go-spec =
     (λ c. search needs)
     (λ c κs. search needs)
     (λ c κs. search needs)
-    same-length-6
-    same-length-7
-    same-length-8
-    same-length-9
-    same-length-10
+    (λ c. outside (c .before .before) .loop .inv .1 .stack)
+    (λ c. outside (c .before .before) .loop .inv .1 .values)
+    (λ c. outside (c .before .before) .loop .inv .1 .labels)
+    (λ c. outside (c .before .before) .loop .inv .1 .numbers)
+    (λ c. outside (c .before .before) .loop .inv .1 .lineLabels)
     returns-2
     (λ c κs. search needs)
     (λ c κs. search needs)
-    same-length-11
-    same-length-12
-    same-length-13
-    same-length-14
-    same-length-15
+    (λ c. c .before .before .before .loop .inv .1 .stack)
+    (λ c. c .before .before .before .loop .inv .1 .values)
+    (λ c. c .before .before .before .loop .inv .1 .labels)
+    (λ c. c .before .before .before .loop .inv .1 .numbers)
+    (λ c. c .before .before .before .loop .inv .1 .lineLabels)
     returns-3)
