@@ -1,6 +1,6 @@
 -- Rows as the code checks them: the key of a row by its labels, and the answer by the row's command, labels and verdict.
 -- Assumes nothing.
-use mathlib.Core.Path.{_≡_, refl, sym, ap, ap₂, _∙_}
+use mathlib.Core.Path.{_≡_, refl, sym, ap, _∙_}
 use mathlib.Core.Bool.{Bool, true, false}
 use mathlib.Core.List.{List}
 use mathlib.Core.Option.{Option, none, some}
@@ -22,7 +22,6 @@ use Rattle.program.specs.Command.{Opcode, opcodeOf, supplies}
 use Rattle.program.proofs.Codes.{codeOf-opcodeOf, code-least, code-most}
 use Rattle.machine.specs.Rule as Rules
 use Rattle.tables.specs.declared.Labels.{Labels}
-use Rattle.tables.specs.declared.Checked.{Checked}
 use Rattle.tables.specs.declared.Checked.the-variants as Checked
 use Rattle.tables.specs.declared.row.Found.{Found}
 use Rattle.tables.specs.declared.row.Found.the-variants as Found
@@ -32,7 +31,7 @@ use Rattle.tables.specs.Value.{inputIf, keyOf}
 use Rattle.tables.specs.Ask.{verdictOf, checkAnswer, ask}
 use Rattle.policy.specs.Row.{isMark, emptyRow, inputOf, presentOf, missingIf, labelOption, given, word, rowKey, agrees, acceptedRow}
 use Rattle.policy.specs.Row.{rowAnswer}
-use Rattle.tables.specs.RowCode.{markIf, inputStored, labelsFrom, rowLabels, verdictAgrees, rowIn, inspected}
+use Rattle.tables.specs.RowCode.{markIf, inputStored, labelsFrom, rowLabels, verdictAgrees, rowIn}
 
 -- ════════════════════════════════════════════════════════════════════════════════════════════
 -- The key of a row
@@ -148,12 +147,7 @@ module _ (ws : List ℤ) where
   row-code (refused r) n e f = sym e
   row-code (table t) n e f = rw (e, f)
 
--- both checks, by what the first says
-pub accepted-inspected : (t : ReadTable) (ws : List ℤ) (b : Bool) → checkAnswer t ≡ Checked.Accepted → b ≡ rowAnswer t ws
-    → record { table = Checked.Accepted; row = b } ≡ inspected t ws
-accepted-inspected t ws b e f = ap₂ (λ (x : Checked) (y : Bool). record { table = x; row = y }) (sym e) f
-
-pub refused-inspected : (t : ReadTable) (ws : List ℤ) (r : Refusal) (b : Bool) → checkAnswer t ≡ Checked.Refused r → b ≡ emptyRow ws
-    → record { table = Checked.Refused r; row = b } ≡ inspected t ws
-refused-inspected (refused q) ws r b e f = ap₂ (λ (x : Checked) (y : Bool). record { table = x; row = y }) (sym e) f
-refused-inspected (table t) ws r b e f = never (cc)
+  -- where the bytes are no table
+  pub row-refused : (t : ReadTable) (r : Refusal) → checkAnswer t ≡ Checked.Refused r → emptyRow ws ≡ rowAnswer t ws
+  row-refused (refused q) r e = refl
+  row-refused (table t) r e = never (cc)

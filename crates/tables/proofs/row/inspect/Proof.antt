@@ -4,7 +4,7 @@ use mathlib.Core.Path.{_∙_, sym}
 use denote.Ref.{now}
 use Rattle.policy.specs.Read.{readTable}
 use Rattle.tables.proofs.Asking.{accepted-readable}
-use Rattle.tables.proofs.RowKeys.{accepted-inspected, refused-inspected}
+use Rattle.tables.proofs.RowKeys.{row-refused}
 use borrow.Author.Needs.{needs}
 use Rattle.tables.proofs.row.inspect.Statement.{statement}
 use Rattle.tables.proofs.row.inspect.Tie as tie
@@ -17,16 +17,13 @@ check-row-requires c κs =
 returns : tie.Need-returns
 returns c =
     let t = c .before .before .before in
-    let a = t .before .before .args in
-    accepted-inspected (readTable (now (a .bytes))) (a .cache .words) _ (sym (t .check-table .ensures) ∙ c .before .enum-told .given .1)
-    (c .check-row .ensures)
+    rw (sym (t .check-table .ensures) ∙ c .before .enum-told .given .1, c .check-row .ensures)
 
 returns-2 : tie.Need-returns-2
 returns-2 c =
     let t = c .before .before .before .before in
-    let a = t .before .before .args in
-    refused-inspected (readTable (now (a .bytes))) (a .cache .words) (c .before .before .checked .given .0 .0) _
-    (sym (t .check-table .ensures) ∙ c .before .before .checked .given .1) (c .is-empty .ensures)
+    let refused = sym (t .check-table .ensures) ∙ c .before .before .checked .given .1 in
+    rw (refused, c .is-empty .ensures, row-refused _ _ _ refused)
 
 pub inspect-spec : {M : Type 1} → statement M
 inspect-spec =
