@@ -1,5 +1,4 @@
--- The kernel on words, as the code has it: the topmost entry of the stack is at hand, the others lie in a run of words, bottom first, and
--- an instruction hands back a record.
+-- The kernel on words, as the code has it: the topmost entry of the stack is at hand, the others lie in words, bottom first.
 use Prim.Native.Nat.{ℕ, zero, suc, _+_, _-_, _*_, _^_, _<_, _≤_}
 use mathlib.Core.Path.{_≡_}
 use mathlib.Core.Bool.{_&&_}

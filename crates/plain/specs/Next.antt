@@ -11,7 +11,7 @@ use Rattle.stack.specs.Words.{pushed, pushedStack, following}
 use Rattle.engine.specs.Loop.{wordAt, operandAt}
 use Rattle.plain.specs.declared.run.Chosen.{Chosen}
 
--- the command to be carried out next, the run as far as it, and the stack
+-- the command to be carried out next, the run as far as it with the allowance that is left then, and the stack
 pub record Ready : Type 0 where
   pub next : Chosen
   pub stack : List ℤ
@@ -19,7 +19,6 @@ pub record Ready : Type 0 where
 abbrev pub ready : Chosen → List ℤ → Ready
 ready n stack = record { next = n; stack = stack }
 
--- `left` is the allowance that is left, before the command
 abbrev pub chosen : Machine → ℤ → ℤ → ℕ → Chosen
 chosen m word operand left = record { machine = m; word = word; operand = operand; left = left }
 
