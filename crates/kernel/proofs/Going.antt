@@ -75,7 +75,8 @@ held-both words count limit place h p = by (ltb place count) (ltb (2 * place + 1
 -- ════════════════════════════════════════════════════════════════════════════════════════════
 
 -- an instruction, or none, does not ask after the steps
-act-at : (o : Option Instruction) (s : Spot) (stack row : List ℤ) (n m : ℕ) → effectAt o (state s stack row n) ≡ effectAt o (state s stack row m)
+act-at : (o : Option Instruction) (s : Spot) (stack row : List ℤ) (n m : ℕ)
+    → effectAt o (state s stack row n) ≡ effectAt o (state s stack row m)
 act-at none s stack row n m = refl
 act-at (some i) s stack row n m = refl
 
@@ -111,7 +112,8 @@ module _ (count : ℕ) (space row₀ : List ℤ) where
           (λ y. run (held space count) (count - (steps + 1)) y) ≡ handleSpace space count row₀
       unfolding run
       next =
-          let z : count - steps ≡ suc (count - (steps + 1)) = omega (arith, g .few, held-both (length space) count limit (s .place) h p .0) in
+          let below = held-both (length space) count limit (s .place) h p .0 in
+          let z : count - steps ≡ suc (count - (steps + 1)) = omega (arith, g .few) in
           sym (ap (λ (n : ℕ). run (held space count) n (state s stack row steps)) z) ∙ g .left
 
       module _ (r : Stepped) (stack′ : List ℤ) (a : Acts row (instructionAt space (s .place)) s stack r stack′) where
