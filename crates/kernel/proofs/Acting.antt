@@ -23,14 +23,14 @@ use Rattle.word.proofs.Bool.{never}
 use Rattle.machine.specs.Step.{branch}
 use Rattle.kernel.specs.declared.Whole.the-variants as Whole
 use Rattle.kernel.specs.declared.How.the-variants as How
-use Rattle.kernel.specs.declared.Spot.{Spot}
+use Rattle.kernel.specs.declared.Registers.{Registers}
 use Rattle.kernel.specs.declared.Stepped.{Stepped}
 use Rattle.handler.specs.Kernel.{Instruction, Add, Sub, Or, Load, Store, Dup, Swap, Jump, Ret, Push, Bnz}
 use Rattle.handler.specs.Kernel.{Effect, ends, goes, failed, withValues, withWord, provided, pushing, jumping, effect, orWord}
 use Rattle.handler.specs.Space.{codeOf, known}
 use Rattle.handler.proofs.Space.{unknown-code}
 use Rattle.word.specs.Choose.{choose}
-use Rattle.kernel.specs.Words.{topped, stackOf, spot, below, moved, wholeOf, ending, going, effectOf}
+use Rattle.kernel.specs.Words.{topped, stackOf, registers, below, moved, wholeOf, ending, going, effectOf}
 use Rattle.kernel.specs.Words.{DoesOn, Does, Acts, folding, combined, jumpingTo, branching}
 use Rattle.kernel.proofs.Words.{lying-set, lying-topped, topped-at, topped-push, stack-length, below-stack}
 use Rattle.kernel.proofs.Words.{value-one, value-none, values-two, values-none}
@@ -40,16 +40,16 @@ use Rattle.kernel.proofs.Words.{value-one, value-none, values-two, valu
 -- ════════════════════════════════════════════════════════════════════════════════════════════
 
 -- no word of the row changes
-pub going-effect : (s : Spot) (w row : List ℤ) → length row ≡ 7 → effectOf (going s) w row ≡ goes (s .place) (stackOf s w) row
+pub going-effect : (s : Registers) (w row : List ℤ) → length row ≡ 7 → effectOf (going s) w row ≡ goes (s .place) (stackOf s w) row
 going-effect s w row h = ap (λ (x : List ℤ). goes (s .place) (stackOf s w) x) (set-out row 7 (pos 0) (omega arith))
 
 -- at the next place
 going-next : (p d : ℕ) (top : ℤ) (w row t : List ℤ) → length row ≡ 7 → topped top d w ≡ t
-    → effectOf (going (spot (p + 1) d top)) w row ≡ goes (suc p) t row
+    → effectOf (going (registers (p + 1) d top)) w row ≡ goes (suc p) t row
 unfolding stackOf
 going-next p d top w row t h e =
     let q : p + 1 ≡ suc p = omega arith in
-    going-effect (spot (p + 1) d top) w row h ∙ ap₂ (λ (n : ℕ) (x : List ℤ). goes n x row) q e
+    going-effect (registers (p + 1) d top) w row h ∙ ap₂ (λ (n : ℕ) (x : List ℤ). goes n x row) q e
 
 -- ════════════════════════════════════════════════════════════════════════════════════════════
 -- Add, Sub, Or
@@ -66,13 +66,13 @@ folding-effect code place s row = by (eqb code (codeOf Add)) (eqb code (codeOf S
     by false true = refl
     by false false = refl
 
-module _ (s : Spot) (w : List ℤ) where
+module _ (s : Registers) (w : List ℤ) where
   pub fold-none : (code : ℕ) (w′ : List ℤ) → s .depth < 2 → Does (folding code) s w (ending How.Failed) w′
   unfolding Does DoesOn
   fold-none code w′ h row e = sym (folding-effect code (s .place) (stackOf s w) row ∙ values-none s w _ h)
 
   pub fold-done : (code : ℕ) → 2 ≤ s .depth
-      → Does (folding code) s w (going (spot (s .place + 1) (s .depth - 1) (combined code (s .top) (getD w (s .depth - 1) (pos 0))))) w
+      → Does (folding code) s w (going (registers (s .place + 1) (s .depth - 1) (combined code (s .top) (getD w (s .depth - 1) (pos 0))))) w
   unfolding Does DoesOn
   fold-done code h row e =
       going-next (s .place) (s .depth - 1) _ w row _ e (topped-at w _ (s .depth - 1) (s .depth - 2) (omega arith))
@@ -87,7 +87,7 @@ module _ (s : Spot) (w : List ℤ) where
   push-full a w′ h row e = rw (stack-length s w, le-ltb (s .depth) 64 h)
 
   pub push-done : (a : ℤ) → s .depth < 64 → length w ≡ 64
-      → Does (Push a) s w (going (spot (s .place + 1) (s .depth + 1) a)) (set w (s .depth) (s .top))
+      → Does (Push a) s w (going (registers (s .place + 1) (s .depth + 1) a)) (set w (s .depth) (s .top))
   unfolding Does DoesOn effect stackOf
   push-done a h g row e =
       rw (stack-length s w, lt-ltb (s .depth) 64 h)
@@ -106,7 +106,7 @@ module _ (s : Spot) (w : List ℤ) where
   swap-none w′ h row e = sym (values-none s w _ h)
 
   pub swap-done : 2 ≤ s .depth → s .depth ≤ 64 → length w ≡ 64
-      → Does Swap s w (going (spot (s .place + 1) (s .depth) (getD w (s .depth - 1) (pos 0)))) (set w (s .depth - 1) (s .top))
+      → Does Swap s w (going (registers (s .place + 1) (s .depth) (getD w (s .depth - 1) (pos 0)))) (set w (s .depth - 1) (s .top))
   unfolding Does DoesOn effect
   swap-done h l g row e =
       going-next (s .place) (s .depth) _ _ row _ e
@@ -143,7 +143,7 @@ word-out row (pos n) k h e = by (ltb n 7) refl e
     by false t f = rw (element-none row n (omega (arith, ltb-false n 7 t)))
 word-out row (negsuc n) k h e = refl
 
-module _ (s : Spot) (w : List ℤ) where
+module _ (s : Registers) (w : List ℤ) where
   pub load-none : (row : List ℤ) → s .depth < 1 → DoesOn row Load s w (ending How.Failed) w
   unfolding DoesOn effect
   load-none row h = sym (value-none s w _ h)
@@ -154,7 +154,7 @@ module _ (s : Spot) (w : List ℤ) where
   load-out row h e o = sym (value-one s w _ h ∙ word-out row _ _ e o)
 
   pub load-done : (row : List ℤ) (i : ℕ) → 1 ≤ s .depth → length row ≡ 7 → indexOf (s .top) 7 ≡ Index.At i
-      → DoesOn row Load s w (going (spot (s .place + 1) (s .depth) (getD row i (pos 0)))) w
+      → DoesOn row Load s w (going (registers (s .place + 1) (s .depth) (getD row i (pos 0)))) w
   unfolding DoesOn effect
   load-done row i h e o =
       going-next (s .place) (s .depth) _ w row _ e (topped-at w _ (s .depth) (s .depth - 1) (omega arith))
@@ -173,7 +173,7 @@ module _ (s : Spot) (w : List ℤ) where
   storing i =
       record {
         how = How.Goes;
-        at = spot (s .place + 1) (s .depth - 2) (getD w (s .depth - 2) (pos 0));
+        at = registers (s .place + 1) (s .depth - 2) (getD w (s .depth - 2) (pos 0));
         address = i;
         word = getD w (s .depth - 1) (pos 0);
       }
@@ -189,7 +189,7 @@ module _ (s : Spot) (w : List ℤ) where
 -- Jump and Bnz
 -- ════════════════════════════════════════════════════════════════════════════════════════════
 
-module _ (s : Spot) (w row : List ℤ) (e : length row ≡ 7) where
+module _ (s : Registers) (w row : List ℤ) (e : length row ≡ 7) where
   -- where a test chooses between a place and failing
   if-goes : (b : Bool) (n : ℕ) → effectOf (choose b (going (moved s n)) (ending How.Failed)) w row ≡ provided b (goes n (stackOf s w) row)
   unfolding stackOf
@@ -223,7 +223,7 @@ pub whole-small : (z : ℤ) (n : ℕ) → SFits w64 z → wholeOf z ≡ Whole.At
 whole-small (pos m) n f e = let q : m ≡ n = cc in let h = f .sfits in omega arith
 whole-small (negsuc m) n f e = absurd (let x : _≡_ {A = ℕ} 0 1 = cc in omega arith)
 
-module _ (s : Spot) (w : List ℤ) where
+module _ (s : Registers) (w : List ℤ) where
   pub jump-none : (w′ : List ℤ) → s .depth < 1 → Does Jump s w (ending How.Failed) w′
   unfolding Does DoesOn effect
   jump-none w′ h row e = sym (value-none s w _ h)
@@ -308,7 +308,7 @@ residue-known (negsuc code) n f =
     let e : code % 2 ^ 64 ≡ code = mod-eq-of-lt (omega arith) in
     rw e (past-known (2 ^ 64 - suc code) n (omega arith) (omega arith))
 
-module _ (row : List ℤ) (o : Option Instruction) (s : Spot) (w w′ : List ℤ) (r : Stepped) where
+module _ (row : List ℤ) (o : Option Instruction) (s : Registers) (w w′ : List ℤ) (r : Stepped) where
   pub acts-on : (i : Instruction) → o ≡ some i → DoesOn row i s w r w′ → Acts row o s w r w′
   unfolding DoesOn Acts
   acts-on i e h = rw e h

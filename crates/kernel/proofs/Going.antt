@@ -13,16 +13,16 @@ use lib.ListN.{length, set, length-set}
 use lib.Dec.{ltb}
 use borrow.Author.Tests.{ltb-true, ltb-false, lt-ltb, le-ltb}
 use Rattle.kernel.specs.declared.How.the-variants as How
-use Rattle.kernel.specs.declared.Spot.{Spot}
+use Rattle.kernel.specs.declared.Registers.{Registers}
 use Rattle.kernel.specs.declared.Stepped.{Stepped}
 use Rattle.handler.specs.Kernel.{Instruction, Outcome, returned, denied, failed, Effect, ends, goes, effectAt}
 use Rattle.handler.specs.Kernel.{Code, Kernel, Result, ended, after, step, run, start}
 use Rattle.handler.specs.Space.{instructionAt, held, handleSpace}
-use Rattle.kernel.specs.Words.{stackOf, spot, state, effectOf, Acts, Held}
+use Rattle.kernel.specs.Words.{stackOf, registers, state, effectOf, Acts, Held}
 use Rattle.kernel.proofs.Words.{stack-length}
 use Rattle.handler.proofs.Effect.{step-kept}
 
-pub record Going (count : ℕ) (space row₀ : List ℤ) (s : Spot) (stack row : List ℤ) (steps : ℕ) : Type 0 where
+pub record Going (count : ℕ) (space row₀ : List ℤ) (s : Registers) (stack row : List ℤ) (steps : ℕ) : Type 0 where
   pub few : steps ≤ s .place
   pub deep : s .depth ≤ 64
   pub size : length stack ≡ 64
@@ -75,7 +75,7 @@ held-both words count limit place h p = by (ltb place count) (ltb (2 * place + 1
 -- ════════════════════════════════════════════════════════════════════════════════════════════
 
 -- an instruction, or none, does not ask after the steps
-act-at : (o : Option Instruction) (s : Spot) (stack row : List ℤ) (n m : ℕ)
+act-at : (o : Option Instruction) (s : Registers) (stack row : List ℤ) (n m : ℕ)
     → effectAt o (state s stack row n) ≡ effectAt o (state s stack row m)
 act-at none s stack row n m = refl
 act-at (some i) s stack row n m = refl
@@ -87,7 +87,7 @@ run-none code zero x e = refl
 run-none code (suc fuel) x e = rw e
 
 module _ (count : ℕ) (space row₀ : List ℤ) where
-  pub going-start : (stack : List ℤ) → length stack ≡ 64 → length row₀ ≡ 7 → Going count space row₀ (spot 0 0 (pos 0)) stack row₀ 0
+  pub going-start : (stack : List ℤ) → length stack ≡ 64 → length row₀ ≡ 7 → Going count space row₀ (registers 0 0 (pos 0)) stack row₀ 0
   unfolding handleSpace stackOf
   going-start stack h l =
       record {
@@ -98,7 +98,7 @@ module _ (count : ℕ) (space row₀ : List ℤ) where
         left = ap (λ (n : ℕ). run (held space count) n (start row₀)) (sub-zero count);
       }
 
-  module _ (limit : ℕ) (h : Held (length space) count limit) (s : Spot) (stack row : List ℤ) (steps : ℕ)
+  module _ (limit : ℕ) (h : Held (length space) count limit) (s : Registers) (stack row : List ℤ) (steps : ℕ)
       (g : Going count space row₀ s stack row steps) where
     pub going-end : limit ≤ s .place → result failed row steps ≡ handleSpace space count row₀
     unfolding Held

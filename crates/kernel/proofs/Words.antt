@@ -13,7 +13,7 @@ use lib.Signed.{ltZ, mag}
 use borrow.Author.Tests.{ltb-true}
 use Rattle.kernel.specs.declared.Whole.the-variants.{At, Below}
 use Rattle.handler.specs.Kernel.{Effect, ends, failed, withValue, withValues}
-use Rattle.kernel.specs.declared.Spot.{Spot}
+use Rattle.kernel.specs.declared.Registers.{Registers}
 use Rattle.kernel.specs.Words.{lying, topped, stackOf, below, wholeOf}
 
 -- ════════════════════════════════════════════════════════════════════════════════════════════
@@ -41,7 +41,7 @@ module _ (w : List ℤ) where
       let f : d ≡ e = omega arith in
       rw (f, lying-above e (suc e) a (omega arith), getD-set-same w (suc e) a (pos 0) (omega arith))
 
-  -- the topmost of them at hand
+  -- the topmost of them in a register
   pub lying-topped : (n : ℕ) → topped (getD w n (pos 0)) n w ≡ lying w n
   unfolding lying
   lying-topped zero = refl
@@ -51,7 +51,7 @@ module _ (w : List ℤ) where
   topped-at top zero e q = absurd (omega arith)
   topped-at top (suc d) e q = let f : d ≡ e = omega arith in rw f
 
-  -- that one put to the others, and another at hand
+  -- that one put to the others, and another in the register
   pub topped-push : (top a : ℤ) (d : ℕ) → d < length w → topped a (d + 1) (set w d top) ≡ a ∷ topped top d w
   unfolding lying
   topped-push top a zero h = refl
@@ -60,10 +60,10 @@ module _ (w : List ℤ) where
       rw e (ap (λ (xs : List ℤ). a ∷ xs) (lying-set (suc d) d top h (omega arith)))
 
 -- ════════════════════════════════════════════════════════════════════════════════════════════
--- The stack where a handler stands
+-- The stack, by its registers
 -- ════════════════════════════════════════════════════════════════════════════════════════════
 
-module _ (s : Spot) (w : List ℤ) where
+module _ (s : Registers) (w : List ℤ) where
   pub stack-length : length (stackOf s w) ≡ s .depth
   unfolding stackOf
   stack-length = by (s .depth)

@@ -1,4 +1,4 @@
--- The kernel on words, as the code has it: the topmost entry of the stack is at hand, the others lie in words, bottom first.
+-- The kernel on words, as the code has it: the topmost entry of the stack is a register, the others lie in words, bottom first.
 use Prim.Native.Nat.{ℕ, zero, suc, _+_, _-_, _*_, _^_, _<_, _≤_}
 use mathlib.Core.Path.{_≡_}
 use mathlib.Core.Bool.{_&&_}
@@ -13,7 +13,7 @@ use Rattle.kernel.specs.declared.Whole.{Whole}
 use Rattle.kernel.specs.declared.Whole.the-variants.{At, Below}
 use Rattle.kernel.specs.declared.How.{How}
 use Rattle.kernel.specs.declared.How.the-variants as How
-use Rattle.kernel.specs.declared.Spot.{Spot}
+use Rattle.kernel.specs.declared.Registers.{Registers}
 use Rattle.kernel.specs.declared.Stepped.{Stepped}
 use Rattle.kernel.specs.declared.Outcome as Ended
 use Rattle.kernel.specs.declared.Outcome.the-variants as End
@@ -28,23 +28,23 @@ unfoldable pub lying : List ℤ → ℕ → List ℤ
 lying words zero = []
 lying words (suc n) = getD words (suc n) (pos 0) ∷ lying words n
 
--- the stack of so many entries, the topmost of which is at hand
+-- the stack of so many entries, the topmost of which is in a register
 abbrev pub topped : ℤ → ℕ → List ℤ → List ℤ
 topped top zero words = []
 topped top (suc n) words = top ∷ lying words n
 
-unfoldable pub stackOf : Spot → List ℤ → List ℤ
+unfoldable pub stackOf : Registers → List ℤ → List ℤ
 stackOf s words = topped (s .top) (s .depth) words
 
-abbrev pub spot : (place depth : ℕ) → ℤ → Spot
-spot place depth top = record { place = place; depth = depth; top = top }
+abbrev pub registers : (place depth : ℕ) → ℤ → Registers
+registers place depth top = record { place = place; depth = depth; top = top }
 
 -- without its topmost entry
-abbrev pub below : Spot → List ℤ → Spot
-below s words = spot (s .place) (s .depth - 1) (getD words (s .depth - 1) (pos 0))
+abbrev pub below : Registers → List ℤ → Registers
+below s words = registers (s .place) (s .depth - 1) (getD words (s .depth - 1) (pos 0))
 
 -- the stack is in the 64 words, and a place more can be counted
-pub record Room (s : Spot) (words : List ℤ) : Type 0 where
+pub record Room (s : Registers) (words : List ℤ) : Type 0 where
   pub place : s .place < 2 ^ 63
   pub depth : s .depth ≤ 64
   pub size : length words ≡ 64
@@ -58,9 +58,9 @@ wholeOf (negsuc n) = Below n
 -- ════════════════════════════════════════════════════════════════════════════════════════════
 
 abbrev pub ending : How → Stepped
-ending how = record { how = how; at = spot 0 0 (pos 0); address = 7; word = pos 0 }
+ending how = record { how = how; at = registers 0 0 (pos 0); address = 7; word = pos 0 }
 
-abbrev pub going : Spot → Stepped
+abbrev pub going : Registers → Stepped
 going s = record { how = How.Goes; at = s; address = 7; word = pos 0 }
 
 -- what it stands for, beside the stack's words and the row
@@ -73,20 +73,20 @@ effectBy How.Failed r words row = ends failed
 abbrev pub effectOf : Stepped → List ℤ → List ℤ → Effect
 effectOf r words row = effectBy (r .how) r words row
 
--- an instruction was carried out on a row, from a spot
-unfoldable pub DoesOn : List ℤ → Instruction → Spot → List ℤ → Stepped → List ℤ → Type 0
+-- an instruction was carried out on a row, from these registers
+unfoldable pub DoesOn : List ℤ → Instruction → Registers → List ℤ → Stepped → List ℤ → Type 0
 DoesOn row i s before r after = effectOf r after row ≡ effect i (s .place) (stackOf s before) row
 
 -- and on any row
-unfoldable pub Does : Instruction → Spot → List ℤ → Stepped → List ℤ → Type 0
+unfoldable pub Does : Instruction → Registers → List ℤ → Stepped → List ℤ → Type 0
 Does i s before r after = (row : List ℤ) → length row ≡ 7 → DoesOn row i s before r after
 
 -- the kernel's state that the words stand for, after so many steps
-abbrev pub state : Spot → List ℤ → List ℤ → ℕ → Kernel
+abbrev pub state : Registers → List ℤ → List ℤ → ℕ → Kernel
 state s words row steps = record { place = s .place; stack = stackOf s words; row = row; steps = steps }
 
 -- the instruction, if there is one
-unfoldable pub Acts : List ℤ → Option Instruction → Spot → List ℤ → Stepped → List ℤ → Type 0
+unfoldable pub Acts : List ℤ → Option Instruction → Registers → List ℤ → Stepped → List ℤ → Type 0
 Acts row o s before r after = effectOf r after row ≡ effectAt o (state s before row 0)
 
 -- ════════════════════════════════════════════════════════════════════════════════════════════
@@ -101,16 +101,16 @@ abbrev pub combined : ℕ → ℤ → ℤ → ℤ
 combined code a b = choose (eqb code (codeOf Add)) (addWrap a b) (choose (eqb code (codeOf Sub)) (subWrap a b) (orWord a b))
 
 -- at another place
-abbrev pub moved : Spot → ℕ → Spot
-moved s place = spot place (s .depth) (s .top)
+abbrev pub moved : Registers → ℕ → Registers
+moved s place = registers place (s .depth) (s .top)
 
 -- a jump: forward, or to −1
-abbrev pub jumpingTo : Whole → Spot → Stepped
+abbrev pub jumpingTo : Whole → Registers → Stepped
 jumpingTo (At n) s = choose (ltb (s .place) n) (going (moved s n)) (ending How.Failed)
 jumpingTo (Below n) s = choose (eqb n 0) (ending How.Denied) (ending How.Failed)
 
 -- a branch that is taken: forward, or back to −1
-abbrev pub branching : Whole → Spot → Stepped
+abbrev pub branching : Whole → Registers → Stepped
 branching (At n) s = choose (ltb 0 n) (going (moved s (s .place + n))) (ending How.Failed)
 branching (Below n) s = choose (eqb n (s .place)) (ending How.Denied) (ending How.Failed)
 

@@ -58,18 +58,17 @@ enum How {
     Failed,
 }
 
-// Where a handler stands: the place, how many entries its stack has, and the topmost of them; the others lie in words.
-struct Spot {
+// The kernel's registers: the place, how many entries the stack has, and the topmost of them; the others lie in words.
+struct Registers {
     place: u64,
     depth: usize,
     top: i64,
 }
 
-// An instruction that was carried out: how, and where the handler stands then, with the one word of the rule memory that changes;
-// address 7 says none.
+// An instruction that was carried out: how, the registers then, and the one word of the rule memory that changes; address 7 says none.
 struct Stepped {
     how: How,
-    at: Spot,
+    at: Registers,
     address: usize,
     word: i64,
 }
@@ -87,7 +86,7 @@ fn sized(word: i64) -> Whole
 fn ended(how: How) -> Stepped
     ensures { λ r. ⌜ r ≡ ending how ⌝ }
 {
-    let at = Spot {
+    let at = Registers {
         place: 0,
         depth: 0,
         top: 0,
@@ -100,7 +99,7 @@ fn ended(how: How) -> Stepped
     }
 }
 
-fn gone(at: Spot) -> Stepped
+fn gone(at: Registers) -> Stepped
     ensures { λ r. ⌜ r ≡ going at ⌝ }
 {
     Stepped {
@@ -131,7 +130,7 @@ fn combine(code: u64, a: i64, b: i64) -> i64
 }
 
 // Add, Sub and Or.
-fn fold(code: u64, s: Spot, stack: &[i64]) -> Stepped
+fn fold(code: u64, s: Registers, stack: &[i64]) -> Stepped
     requires { ⌜ Room s (now stack) ⌝ }
     ensures { λ r. ⌜ Does (folding code) s (now (stack .entry)) r (now (stack .entry)) ⌝ }
 {
@@ -140,7 +139,7 @@ fn fold(code: u64, s: Spot, stack: &[i64]) -> Stepped
         return ended(How::Failed);
     }
     let top = combine(code, s.top, stack[depth - 1]);
-    gone(Spot {
+    gone(Registers {
         place: s.place + 1,
         depth: depth - 1,
         top,
@@ -148,7 +147,7 @@ fn fold(code: u64, s: Spot, stack: &[i64]) -> Stepped
 }
 
 // The topmost entry goes to where the others lie.
-fn push(word: i64, s: Spot, stack: &mut [i64]) -> Stepped
+fn push(word: i64, s: Registers, stack: &mut [i64]) -> Stepped
     requires { ⌜ Room s (now stack) ⌝ }
     ensures { λ r. ⌜ Does (Push word) s (now (stack .entry)) r (now (stack .exit)) ⌝ }
 {
@@ -156,7 +155,7 @@ fn push(word: i64, s: Spot, stack: &mut [i64]) -> Stepped
     if depth < 64 {
         let top = s.top;
         stack[depth] = top;
-        return gone(Spot {
+        return gone(Registers {
             place: s.place + 1,
             depth: depth + 1,
             top: word,
@@ -165,7 +164,7 @@ fn push(word: i64, s: Spot, stack: &mut [i64]) -> Stepped
     ended(How::Failed)
 }
 
-fn dup(s: Spot, stack: &mut [i64]) -> Stepped
+fn dup(s: Registers, stack: &mut [i64]) -> Stepped
     requires { ⌜ Room s (now stack) ⌝ }
     ensures { λ r. ⌜ Does Dup s (now (stack .entry)) r (now (stack .exit)) ⌝ }
 {
@@ -175,7 +174,7 @@ fn dup(s: Spot, stack: &mut [i64]) -> Stepped
     push(s.top, s, stack)
 }
 
-fn swap(s: Spot, stack: &mut [i64]) -> Stepped
+fn swap(s: Registers, stack: &mut [i64]) -> Stepped
     requires { ⌜ Room s (now stack) ⌝ }
     ensures { λ r. ⌜ Does Swap s (now (stack .entry)) r (now (stack .exit)) ⌝ }
 {
@@ -186,14 +185,14 @@ fn swap(s: Spot, stack: &mut [i64]) -> Stepped
     let top = s.top;
     let under = stack[depth - 1];
     stack[depth - 1] = top;
-    gone(Spot {
+    gone(Registers {
         place: s.place + 1,
         depth,
         top: under,
     })
 }
 
-fn load(s: Spot, row: &[i64]) -> Stepped
+fn load(s: Registers, row: &[i64]) -> Stepped
     requires { ⌜ (s .place < 2 ^ 63) × (length (now row) ≡ 7) ⌝ }
     ensures { λ r. ⌜ ((stack : List ℤ) → DoesOn (now (row .entry)) Load s stack r stack) ⌝ }
 {
@@ -203,7 +202,7 @@ fn load(s: Spot, row: &[i64]) -> Stepped
     }
     let address = word::number::below(s.top, 7);
     match address {
-        Index::At(i) => gone(Spot {
+        Index::At(i) => gone(Registers {
             place: s.place + 1,
             depth,
             top: row[i],
@@ -213,19 +212,19 @@ fn load(s: Spot, row: &[i64]) -> Stepped
 }
 
 // Without its topmost entry.
-fn dropped(s: Spot, stack: &[i64]) -> Spot
+fn dropped(s: Registers, stack: &[i64]) -> Registers
     requires { ⌜ Room s (now stack) × (1 ≤ s .depth) ⌝ }
     ensures { λ r. ⌜ r ≡ below s (now (stack .entry)) ⌝ }
 {
     let depth = s.depth - 1;
-    Spot {
+    Registers {
         place: s.place,
         depth,
         top: stack[depth],
     }
 }
 
-fn store(s: Spot, stack: &[i64]) -> Stepped
+fn store(s: Registers, stack: &[i64]) -> Stepped
     requires { ⌜ Room s (now stack) ⌝ }
     ensures { λ r. ⌜ Does Store s (now (stack .entry)) r (now (stack .entry)) ⌝ }
 {
@@ -236,7 +235,7 @@ fn store(s: Spot, stack: &[i64]) -> Stepped
     let address = word::number::below(s.top, 7);
     match address {
         Index::At(i) => {
-            let at = Spot {
+            let at = Registers {
                 place: s.place + 1,
                 depth: depth - 2,
                 top: stack[depth - 2],
@@ -253,14 +252,14 @@ fn store(s: Spot, stack: &[i64]) -> Stepped
 }
 
 // A jump goes forward, or to -1.
-fn jump_to(target: i64, s: Spot) -> Stepped
+fn jump_to(target: i64, s: Registers) -> Stepped
     ensures { λ r. ⌜ r ≡ jumpingTo (wholeOf target) s ⌝ }
 {
     let to = sized(target);
     match to {
         Whole::At(n) => {
             if s.place < n {
-                gone(Spot {
+                gone(Registers {
                     place: n,
                     depth: s.depth,
                     top: s.top,
@@ -279,7 +278,7 @@ fn jump_to(target: i64, s: Spot) -> Stepped
     }
 }
 
-fn jump(s: Spot, stack: &[i64]) -> Stepped
+fn jump(s: Registers, stack: &[i64]) -> Stepped
     requires { ⌜ Room s (now stack) ⌝ }
     ensures { λ r. ⌜ Does Jump s (now (stack .entry)) r (now (stack .entry)) ⌝ }
 {
@@ -290,7 +289,7 @@ fn jump(s: Spot, stack: &[i64]) -> Stepped
 }
 
 // A branch that is taken goes forward, or by place + 1 back to -1.
-fn branch(operand: i64, s: Spot) -> Stepped
+fn branch(operand: i64, s: Registers) -> Stepped
     requires { ⌜ s .place < 2 ^ 63 ⌝ }
     ensures { λ r. ⌜ r ≡ branching (wholeOf operand) s ⌝ }
 {
@@ -298,7 +297,7 @@ fn branch(operand: i64, s: Spot) -> Stepped
     match distance {
         Whole::At(n) => {
             if 0 < n {
-                gone(Spot {
+                gone(Registers {
                     place: s.place + n,
                     depth: s.depth,
                     top: s.top,
@@ -317,7 +316,7 @@ fn branch(operand: i64, s: Spot) -> Stepped
     }
 }
 
-fn bnz(operand: i64, s: Spot, stack: &[i64]) -> Stepped
+fn bnz(operand: i64, s: Registers, stack: &[i64]) -> Stepped
     requires { ⌜ Room s (now stack) ⌝ }
     ensures { λ r. ⌜ Does (Bnz operand) s (now (stack .entry)) r (now (stack .entry)) ⌝ }
 {
@@ -326,7 +325,7 @@ fn bnz(operand: i64, s: Spot, stack: &[i64]) -> Stepped
     }
     let under = dropped(s, stack);
     if s.top == 0 {
-        return gone(Spot {
+        return gone(Registers {
             place: under.place + 1,
             depth: under.depth,
             top: under.top,
@@ -336,7 +335,7 @@ fn bnz(operand: i64, s: Spot, stack: &[i64]) -> Stepped
 }
 
 // One instruction, chosen by a tree of tests.
-fn choose(code: u64, operand: i64, s: Spot, stack: &mut [i64], row: &[i64]) -> Stepped
+fn choose(code: u64, operand: i64, s: Registers, stack: &mut [i64], row: &[i64]) -> Stepped
     requires { ⌜ Room s (now stack) × (length (now row) ≡ 7) ⌝ }
     ensures { λ r. ⌜ Acts (now (row .entry)) (known (pos code) operand) s (now (stack .entry)) r (now (stack .exit)) ⌝ }
 {
@@ -383,7 +382,7 @@ fn choose(code: u64, operand: i64, s: Spot, stack: &mut [i64], row: &[i64]) -> S
 }
 
 // The instruction that two words stand for.
-fn act(code: i64, operand: i64, s: Spot, stack: &mut [i64], row: &[i64]) -> Stepped
+fn act(code: i64, operand: i64, s: Registers, stack: &mut [i64], row: &[i64]) -> Stepped
     requires { ⌜ Room s (now stack) × (length (now row) ≡ 7) ⌝ }
     ensures { λ r. ⌜ Acts (now (row .entry)) (known code operand) s (now (stack .entry)) r (now (stack .exit)) ⌝ }
 {
@@ -409,7 +408,7 @@ fn go(space: &[i64], count: usize, stack: &mut [i64], row: &mut [i64]) -> Finish
     ensures { λ r. ⌜ leftBy r (now (row .exit)) ≡ handleSpace (now (space .entry)) count (now (row .entry)) ⌝ }
 {
     let limit = held(space.len(), count);
-    let mut at = Spot {
+    let mut at = Registers {
         place: 0,
         depth: 0,
         top: 0,

@@ -3,7 +3,7 @@
 use native.Mathlib.Omega.{arith}
 use mir.Syntax.{w64}
 use mir.Val.{SFits}
-use Rattle.kernel.specs.declared.Spot.{Spot}
+use Rattle.kernel.specs.declared.Registers.{Registers}
 use Rattle.word.proofs.Signed.{back, back-ok, zero-is, zero-not}
 use Rattle.kernel.proofs.Acting.{bnz-none, bnz-zero, bnz-taken}
 use borrow.Author.Needs.{needs}
@@ -15,7 +15,7 @@ module _ (h : tie.Else1) where
   abbrev start : tie.Start
   start = h .before .before
 
-  abbrev s : Spot
+  abbrev s : Registers
   s = start .args .s
 
 returns : tie.Need-returns
