@@ -1,13 +1,14 @@
 -- Demand 3 (specs/Privacy.antt): what an accepted run leaves on either engine is the machine's run of the sheet's commands under the
 -- standard policy, from the same cells, and its lines stand in the output space; so the machine's theorem speaks of it.
 -- Assumes nothing.
-use mathlib.Core.Path.{_≡_, sym, ap, ap₂, _∙_}
+use mathlib.Core.Path.{_≡_, refl, sym, ap, ap₂, _∙_}
 use mathlib.Core.List.{List}
 use Prim.Native.Nat.{ℕ}
 use lib.IntN.{ℤ}
 use lib.ListN.{length}
 use Rattle.program.specs.declared.Command.{Command}
-use Rattle.program.specs.Decode.{decode, accepted}
+use Rattle.word.proofs.Bool.{never}
+use Rattle.program.specs.Decode.{Decoded, refused, accepted, decode}
 use Rattle.machine.specs.Atom.{Atom, Line}
 use Rattle.machine.specs.Rule.{standard, fixed}
 use Rattle.machine.specs.State.{start}
@@ -15,16 +16,20 @@ use Rattle.machine.specs.Run.{run}
 use Rattle.machine.proofs.Holds.{run-range, standard-range}
 use Rattle.machine.proofs.Privacy.{standard-private}
 use Rattle.engine.specs.declared.Ran as Engine
+use Rattle.engine.specs.declared.Answer.the-variants as Answer
 use Rattle.engine.specs.Memory.{Memory, room}
-use Rattle.engine.specs.Ended.{Ended, begin, resultOf}
+use Rattle.engine.specs.Start as Start
+use Rattle.engine.specs.Ended.{Ended, ended, summary, begin, resultOf, engineOf}
+use Rattle.engine.proofs.Accepted.{answer, start-fine, start-range}
 use Rattle.engine.proofs.Pairs.{lines-read}
 use Rattle.policy.specs.Standard.{standardBytes}
+use Rattle.plain.specs.Plain.{plain}
 use Rattle.tagging.specs.Consult.{Tag}
 use Rattle.tagged.specs.Tagged.{left, tagged}
 use Rattle.claims.specs.Refusals.{Nothing, Checks, noneOwn, taggedOwn}
 use Rattle.claims.specs.Privacy.{cellsIn, linesIn, Ran, onPlain, onTagged, Claim}
 use Rattle.claims.proofs.Refusals.{plain-demand, tagged-demand}
-use Rattle.claims.proofs.Both.{Stops, plain-stops, tagged-stops}
+use Rattle.claims.proofs.Both.{tagged-plain}
 
 -- the machine's run that a sheet, cells and lines belong to
 record Runs (sheet : List ℕ) (cells : List Atom) (lines : List Line) : Type 0 where
@@ -34,24 +39,35 @@ record Runs (sheet : List ℕ) (cells : List Atom) (lines : List Line) : Type 0 
   fuel : ℕ
   are : lines ≡ run (fixed standard) room commands fuel (start cells) tt .state .lines
 
-stops-runs : (sheet : List ℕ) (m : Memory) (fuel : ℕ) (p : Engine.Ran) (after : Memory) → Stops sheet m fuel p after
-    → Runs sheet (cellsIn m) (linesIn p after)
-stops-runs sheet m fuel p after s =
-    record {
-      commands = s .commands;
-      decoded = s .decoded;
-      room = room (m .output);
-      fuel = fuel;
-      are =
-          ap₂ linesIn (s .summary-is) (s .left-is)
-          ∙ lines-read (resultOf (fixed standard) (s .commands) tt m fuel .state .lines) (m .output)
-          (run-range (fixed standard) (λ u. standard-range) (room (m .output)) (s .commands) fuel (begin m) tt (s .range) .lines);
-    }
+plain-runs : (sheet : List ℕ) (m : Memory) (fuel : ℕ) (p : Engine.Ran) (after : Memory)
+    → plain sheet m fuel ≡ ended (Answer.Stopped p) tt after → Runs sheet (cellsIn m) (linesIn p after)
+unfolding plain
+plain-runs sheet m fuel p after e = go (answer sheet m fuel Start.noneOwn) refl e
+  where
+    go : (d : Decoded) → answer sheet m fuel Start.noneOwn ≡ d → engineOf (fixed standard) d tt m fuel ≡ ended (Answer.Stopped p) tt after
+        → Runs sheet (cellsIn m) (linesIn p after)
+    go (refused r) is e = let answered = ap (λ (x : Ended Unit). x .answer) e in never (cc)
+    go (accepted cs) is e =
+        let answered = ap (λ (x : Ended Unit). x .answer) e in
+        let result = resultOf (fixed standard) cs tt m fuel in
+        let ran : p ≡ summary result = cc in
+        let fine = start-fine sheet m fuel Start.noneOwn cs is in
+        record {
+          commands = cs;
+          decoded = fine .decoded;
+          room = room (m .output);
+          fuel = fuel;
+          are =
+              ap₂ linesIn ran (sym (ap (λ (x : Ended Unit). x .memory) e))
+              ∙ lines-read (result .state .lines) (m .output)
+              (run-range (fixed standard) (λ u. standard-range) (room (m .output)) cs fuel (begin m) tt
+              (start-range sheet m fuel Start.noneOwn cs fine) .lines);
+        }
 
 ran-runs : (sheet : List ℕ) {cells : List Atom} {lines : List Line} → Ran sheet cells lines → Runs sheet cells lines
-ran-runs sheet (onPlain m fuel p after e) = stops-runs sheet m fuel p after (plain-stops sheet m fuel p after e)
+ran-runs sheet (onPlain m fuel p after e) = plain-runs sheet m fuel p after e
 ran-runs sheet (onTagged row size m handler fuel p u after handler′ e) =
-    stops-runs sheet m fuel p after (tagged-stops sheet m fuel row size handler p u after handler′ e)
+    plain-runs sheet m fuel p after (tagged-plain sheet m fuel row handler size p u after handler′ e)
 
 pub runs-private : Claim
 runs-private S sheet cells₁ cells₂ lines₁ lines₂ ran₁ ran₂ alike =

@@ -29,21 +29,24 @@ use Rattle.program.proofs.Decode.{decode-length}
 use Rattle.program.proofs.Encoding.{Bytes, decode-writable}
 use Rattle.program.proofs.Words.{writable-at}
 use Rattle.machine.specs.Rule.{Ruler, rules}
+use Rattle.machine.specs.State.{State, Stop, stopNumber}
+use Rattle.machine.specs.Run.{Same}
 use Rattle.machine.specs.Stopped.{CommandAt}
 use Rattle.machine.specs.Holds.{ProgramHas, Each, AtomHas, LabelsInRange, Answers}
 use Rattle.machine.proofs.Holds.{program-signed}
 use Rattle.stack.specs.Words.{started}
-use Rattle.step.specs.Lent.{Cells, cells}
+use Rattle.step.specs.Lent.{Cells, cells, lent}
 use Rattle.engine.specs.declared.Answer.the-variants as Answer
 use Rattle.engine.specs.declared.start.Limit.{Limit}
 use Rattle.engine.specs.declared.start.Limit.the-variants.{Broken, Kept}
 use Rattle.engine.specs.declared.start.Own.{Own}
 use Rattle.engine.specs.Memory.{Memory, memory, room}
-use Rattle.engine.specs.Layout.{stackWords, cellWords, paired, cellsOf}
-use Rattle.engine.specs.Start.{keptIf, orElse, firstOf, orLabel, labelsLimit, given, limits, within, startDecoded, startOf}
+use Rattle.engine.specs.Layout.{stackWords, cellWords, paired, cellsOf, linesLaid, stackAfter}
+use Rattle.engine.specs.Start.{keptIf, orElse, firstOf, orLabel, labelsLimit, given, noneOwn, limits, within, startDecoded}
+use Rattle.engine.specs.Start.{startOf}
 use Rattle.engine.specs.Act.{WordRuler}
 use Rattle.engine.specs.Loop.{Done, loopOf}
-use Rattle.engine.specs.Ended.{ended, begin, stoppedAt, engineOf}
+use Rattle.engine.specs.Ended.{ended, machineOf, begin, resultOf, stoppedAt, engineOf, SameEnd}
 use Rattle.engine.proofs.Link.Stack.{lowLabel-id}
 use Rattle.engine.proofs.Link.Represents.{Represents, Sound}
 use Rattle.engine.proofs.Act.{Follows}
@@ -65,6 +68,10 @@ AllKept (l ∷ ls) = (l ≡ Kept) × AllKept ls
 all-kept : (ls : List Limit) → firstOf ls ≡ Kept → AllKept ls
 all-kept [] e = tt
 all-kept (l ∷ ls) e = let (a, b) = both-kept l (firstOf ls) e in (a, all-kept ls b)
+
+all-first : (ls : List Limit) → AllKept ls → firstOf ls ≡ Kept
+all-first [] k = refl
+all-first (l ∷ ls) (e, k) = rw e (all-first ls k)
 
 pub test-kept : (b : Bool) (r : Refusal) → keptIf b r ≡ Kept → b ≡ true
 test-kept true r e = refl
@@ -130,10 +137,12 @@ pub record Fine (sheet : List ℕ) (m : Memory) (fuel : ℕ) (own : Own) (cs : L
   pub allowance : fuel ≤ 1000000
 
 module _ (sheet : List ℕ) (m : Memory) (fuel : ℕ) (own : Own) where
-  limits-fine : (cs : List Command) → decode sheet ≡ accepted cs
-      → firstOf (limits (length cs) (m .lent .cells .labels) (given m fuel) own) ≡ Kept → Fine sheet m fuel own cs
+  abbrev limitsOf : List Command → Own → List Limit
+  limitsOf cs x = limits (length cs) (m .lent .cells .labels) (given m fuel) x
+
+  limits-fine : (cs : List Command) → decode sheet ≡ accepted cs → firstOf (limitsOf cs own) ≡ Kept → Fine sheet m fuel own cs
   limits-fine cs d e =
-      let (equal, a) = all-kept (limits (length cs) (m .lent .cells .labels) (given m fuel) own) e in
+      let (equal, a) = all-kept (limitsOf cs own) e in
       let (few, b) = a in
       let (labels, c) = b in
       let (rules, d′) = c in
@@ -160,16 +169,35 @@ module _ (sheet : List ℕ) (m : Memory) (fuel : ℕ) (own : Own) where
   decoded-fine : (d : Decoded) → decode sheet ≡ d → (cs : List Command)
       → startDecoded d (m .lent .cells .labels) (given m fuel) own ≡ accepted cs → Fine sheet m fuel own cs
   decoded-fine (refused r) g cs e = never (cc)
-  decoded-fine (accepted ds) g cs e = go (firstOf (limits (length ds) (m .lent .cells .labels) (given m fuel) own)) refl e
+  decoded-fine (accepted ds) g cs e = go (firstOf (limitsOf ds own)) refl e
     where
-      go : (x : Limit) → firstOf (limits (length ds) (m .lent .cells .labels) (given m fuel) own) ≡ x → within x ds ≡ accepted cs
-          → Fine sheet m fuel own cs
+      go : (x : Limit) → firstOf (limitsOf ds own) ≡ x → within x ds ≡ accepted cs → Fine sheet m fuel own cs
       go (Broken r) f e = never (cc)
       go Kept f e = let k : ds ≡ cs = cc in rw k at (limits-fine ds g f)
 
   pub start-fine : (cs : List Command) → answer ≡ accepted cs → Fine sheet m fuel own cs
   unfolding startOf
   start-fine cs e = decoded-fine (decode sheet) refl cs e
+
+  -- an engine without limits of its own accepts it too
+  pub start-direct : (cs : List Command) → answer ≡ accepted cs
+      → startOf sheet (m .lent .cells .labels) (given m fuel) noneOwn ≡ accepted cs
+  unfolding startOf
+  start-direct cs e = by-sheet (decode sheet) e
+    where
+      by-sheet : (d : Decoded) → startDecoded d (m .lent .cells .labels) (given m fuel) own ≡ accepted cs
+          → startDecoded d (m .lent .cells .labels) (given m fuel) noneOwn ≡ accepted cs
+      by-sheet (refused r) e = e
+      by-sheet (accepted ds) e = by-limits (firstOf (limitsOf ds own)) refl e
+        where
+          by-limits : (x : Limit) → firstOf (limitsOf ds own) ≡ x → within x ds ≡ accepted cs
+              → within (firstOf (limitsOf ds noneOwn)) ds ≡ accepted cs
+          by-limits (Broken r) f e = never (cc)
+          by-limits Kept f e =
+              let k = all-kept (limitsOf ds own) f in
+              let spaces = k .1 .1 .1 .1 .1 in
+              rw (all-first (limitsOf ds noneOwn)
+              (k .0, (k .1 .0, (k .1 .1 .0, (refl, (refl, (spaces .0, (spaces .1 .0, (refl, spaces .1 .1 .1))))))))) e
 
   -- what is checked is refused, or has so many commands
   pub refused-is : {R : Type 0} (ρ : Ruler R) (u : R) (r : Refusal) → Checked.Refused r ≡ checkAnswer answer
@@ -239,3 +267,25 @@ module _ (sheet : List ℕ) (m : Memory) (fuel : ℕ) (own : Own) where
         (m .output) 0
         holds sound refl in
         ap₂ (λ d x. ended (Answer.Stopped (d .ran)) (d .ruler) (memory x (d .lent) (d .output))) q p
+
+-- ════════════════════════════════════════════════════════════════════════════════════════════
+-- Two engines
+-- ════════════════════════════════════════════════════════════════════════════════════════════
+
+-- runs that are the same, with the same stack space, end the same
+pub same-end : {Q R : Type 0} (σ : Ruler Q) (ρ : Ruler R) (cs : List Command) (v : Q) (u : R) (m : Memory) (fuel : ℕ)
+    → Same (resultOf σ cs v m fuel) (resultOf ρ cs u m fuel)
+    → stackAfter σ (room (m .output)) cs fuel (begin m) v (m .lent .stack)
+    ≡ stackAfter ρ (room (m .output)) cs fuel (begin m) u (m .lent .stack)
+    → SameEnd (stoppedAt σ cs v m fuel) (stoppedAt ρ cs u m fuel)
+same-end σ ρ cs v u m fuel h stack =
+    record {
+      answer =
+          ap₂ (λ (s : State) (x : Stop). Answer.Stopped (record { machine = machineOf s; stop = stopNumber x; steps = s .steps }))
+          (h .state) (h .stop);
+      memory =
+          ap₂
+          (λ (s : State) (words : List ℤ).
+          memory (laid (programWords cs) (m .program)) (lent words (cellWords (s .memory))) (linesLaid (s .lines) (m .output)))
+          (h .state) stack;
+    }

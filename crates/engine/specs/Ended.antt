@@ -1,12 +1,13 @@
 -- What an engine answers and what every lent run holds at exit.
 use Prim.Native.Nat.{ℕ}
+use mathlib.Core.Path.{_≡_}
 use mathlib.Core.List.{List}
 use lib.ListN.{length}
 use Rattle.word.specs.Lay.{laid}
 use Rattle.program.specs.declared.Command.{Command}
 use Rattle.program.specs.Decode.{Decoded, refused, accepted}
 use Rattle.program.specs.Space.{programWords}
-use Rattle.machine.specs.Rule.{Ruler}
+use Rattle.machine.specs.Rule.{Policy, Ruler, fixed}
 use Rattle.machine.specs.State.{State, stopNumber, start}
 use Rattle.machine.specs.Run.{Result, run}
 use Rattle.stack.specs.declared.Machine.{Machine}
@@ -16,6 +17,7 @@ use Rattle.engine.specs.declared.Ran.{Ran}
 use Rattle.engine.specs.declared.Answer.{Answer}
 use Rattle.engine.specs.declared.Answer.the-variants as Answer
 use Rattle.engine.specs.Memory.{Memory, memory, room}
+use Rattle.engine.specs.Start.{given, noneOwn, startOf}
 use Rattle.engine.specs.Layout.{cellWords, cellsOf, linesLaid, stackAfter}
 
 -- the answer, what the ruler keeps, and the lent runs
@@ -59,3 +61,12 @@ module _ {R : Type 0} (ρ : Ruler R) (cs : List Command) (u : R) (m : Memory) (f
 abbrev pub engineOf : {R : Type 0} → Ruler R → Decoded → R → Memory → ℕ → Ended R
 engineOf ρ (refused r) u m fuel = ended (Answer.Refused r) u m
 engineOf ρ (accepted cs) u m fuel = stoppedAt ρ cs u m fuel
+
+-- rules that do not change, and no limits of its own: of the sheet, the lent runs and the allowance
+abbrev pub directly : Policy → List ℕ → Memory → ℕ → Ended Unit
+directly π sheet m fuel = engineOf (fixed π) (startOf sheet (m .lent .cells .labels) (given m fuel) noneOwn) tt m fuel
+
+-- two engines, each with a ruler of its own, gave the same answer and left the same in every lent run
+pub record SameEnd {Q R : Type 0} (q : Ended Q) (r : Ended R) : Type 0 where
+  pub answer : q .answer ≡ r .answer
+  pub memory : q .memory ≡ r .memory

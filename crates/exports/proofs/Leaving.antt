@@ -1,6 +1,6 @@
 -- From an engine's contract to that of the exported function over it.
 -- Assumes nothing.
-use mathlib.Core.Path.{_≡_, ap, _∙_}
+use mathlib.Core.Path.{_≡_, subst, ap, _∙_}
 use mathlib.Core.List.{List}
 use Prim.Native.Nat.{ℕ}
 use lib.IntN.{ℤ}
@@ -9,11 +9,11 @@ use Rattle.engine.specs.Memory.{Memory}
 use Rattle.engine.specs.Ended.{Ended, ended}
 use Rattle.plain.specs.Plain.{plain}
 use Rattle.tagged.specs.declared.Tagged.{Tagged}
-use Rattle.tagged.specs.Tagged.{Left, left, endedBy, tagged}
+use Rattle.tagged.specs.Tagged.{Left, left, endedBy, tagged, Promises}
 use Rattle.exports.specs.declared.result.LuvrodanResult.{LuvrodanResult}
 use Rattle.exports.specs.Result.{resultOf}
 use Rattle.exports.specs.Row.{givenRow, leftRow}
-use Rattle.exports.specs.Exported.{plainLeft, exportedPlain, taggedLeft, exportedTagged}
+use Rattle.exports.specs.Exported.{plainLeft, exportedPlain, taggedLeft, exportedTagged, ExportedPromises}
 
 module _ (sheet : List ℕ) (m : Memory) (fuel : ℕ) (r : LuvrodanResult) (after : Memory) where
   pub plain-left : (a : Answer) → r ≡ resultOf a 0 0 → ended a tt after ≡ plain sheet m fuel
@@ -37,3 +37,10 @@ module _ (sheet : List ℕ) (m : Memory) (fuel : ℕ) (r : LuvrodanResult) (afte
         (leftRow (x .ended .ruler .row) lent)
         (x .ended .memory) (x .handler))
         (d ∙ ap (λ (x : List ℤ). tagged sheet bytes x m handler fuel) g)
+
+-- what is promised of an engine's end that is the definition's
+pub promises-left : (sheet bytes : List ℕ) (lent : List ℤ) (m : Memory) (handler : List ℤ) (fuel : ℕ) (x : Left) (given : List ℤ)
+    → given ≡ givenRow lent → x ≡ tagged sheet bytes given m handler fuel → Promises sheet bytes m handler fuel x
+    → ExportedPromises sheet bytes lent m handler fuel
+promises-left sheet bytes lent m handler fuel x given g d h =
+    subst (Promises sheet bytes m handler fuel) (d ∙ ap (λ (row : List ℤ). tagged sheet bytes row m handler fuel) g) h

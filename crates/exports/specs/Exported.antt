@@ -6,7 +6,7 @@ use Rattle.engine.specs.Memory.{Memory}
 use Rattle.engine.specs.Ended.{Ended}
 use Rattle.plain.specs.Plain.{plain}
 use Rattle.tagging.specs.Consult.{Tag}
-use Rattle.tagged.specs.Tagged.{Left, tagged}
+use Rattle.tagged.specs.Tagged.{Left, tagged, Promises}
 use Rattle.exports.specs.declared.result.LuvrodanResult.{LuvrodanResult}
 use Rattle.report.specs.Page.{pageAnswer, pageOut}
 use Rattle.exports.specs.declared.result.LuvrodanPageResult.{LuvrodanPageResult}
@@ -41,6 +41,11 @@ exportedTagged sheet bytes lent m handler fuel =
     let x : Left = tagged sheet bytes (givenRow lent) m handler fuel in
     let e : Ended Tag = x .ended in
     taggedLeft (resultOf (e .answer) (e .ruler .faults) (e .ruler .kernelSteps)) (leftRow (e .ruler .row) lent) (e .memory) (x .handler)
+
+-- what is promised of that call of the tag engine, over the table that the bytes are
+abbrev pub ExportedPromises : List ℕ → List ℕ → List ℤ → Memory → List ℤ → ℕ → Type 0
+ExportedPromises sheet bytes lent m handler fuel =
+    Promises sheet bytes m handler fuel (tagged sheet bytes (givenRow lent) m handler fuel)
 
 -- the result and the lent bytes
 pub record PageLeft : Type 0 where

@@ -8,9 +8,11 @@ ghost use mathlib.Core.Path.{_≡_};
 ghost use lib.ListN.{length};
 ghost use Rattle.policy.specs.Read.{readTable};
 ghost use Rattle.handler.specs.Translate.{handlerOf};
+ghost use Rattle.handler.specs.Claim.{Handles};
 ghost use Rattle.step.specs.Lent.{cells, lent};
 ghost use Rattle.engine.specs.Memory.{output, memory};
 ghost use Rattle.exports.specs.Exported.{plainLeft, exportedPlain, taggedLeft, exportedTagged, pageLeft, exportedPage};
+ghost use Rattle.exports.specs.Exported.{ExportedPromises};
 
 // A run under the standard rules.
 #[no_mangle]
@@ -60,11 +62,15 @@ pub extern "C" fn luvrodan_tagged(
     line_labels: &mut [i64],
     fuel: u64,
 ) -> LuvrodanResult
-    ensures { λ r. ⌜ taggedLeft r (now («rule_memory» .exit))
+    ensures left { λ r. ⌜ taggedLeft r (now («rule_memory» .exit))
         (memory (now (program .exit)) (lent (now (stack .exit)) (cells (now (values .exit)) (now (labels .exit))))
         (output (now (numbers .exit)) (now («line_labels» .exit))))
         (now (handler .exit))
         ≡ exportedTagged (now (sheet .entry)) (now (table .entry)) (now («rule_memory» .entry))
+        (memory (now (program .entry)) (lent (now (stack .entry)) (cells (now (values .entry)) (now (labels .entry))))
+        (output (now (numbers .entry)) (now («line_labels» .entry))))
+        (now (handler .entry)) fuel ⌝ }
+    ensures rules { λ _. ⌜ ExportedPromises (now (sheet .entry)) (now (table .entry)) (now («rule_memory» .entry))
         (memory (now (program .entry)) (lent (now (stack .entry)) (cells (now (values .entry)) (now (labels .entry))))
         (output (now (numbers .entry)) (now («line_labels» .entry))))
         (now (handler .entry)) fuel ⌝ }
@@ -91,7 +97,8 @@ pub extern "C" fn luvrodan_tagged(
 // How many kernel commands the handler of a table has; 0 where the bytes are no table.
 #[no_mangle]
 pub extern "C" fn luvrodan_handler_count(table: &[u8]) -> u64
-    ensures { λ r. ⌜ r ≡ length (handlerOf (readTable (now (table .entry)))) ⌝ }
+    ensures count { λ r. ⌜ r ≡ length (handlerOf (readTable (now (table .entry)))) ⌝ }
+    ensures handler { λ r. ⌜ Handles (readTable (now (table .entry))) (λ t code. r ≡ length code) ⌝ }
 {
     translator::count(table) as u64
 }

@@ -13,11 +13,11 @@ use lib.Dec.{ltb}
 use borrow.Author.Tests.{ltb-true}
 use Rattle.machine.specs.Step.{branch}
 use Rattle.handler.specs.Kernel.{Instruction, Add, Sub, Or, Load, Store, Dup, Swap, Jump, Ret, Push, Bnz}
-use Rattle.handler.specs.Kernel.{returned, denied, failed, Effect, ends, goes, Code, Kernel, Result, stackLimit}
+use Rattle.handler.specs.Kernel.{Outcome, returned, denied, failed, Effect, ends, goes, Code, Kernel, Result, stackLimit}
 use Rattle.handler.specs.Kernel.{withValue, withValues, withElement, withWord, provided, pushing, jumping}
 use Rattle.handler.specs.Kernel.{effect, effectAt, step, after, run, handle, start}
 use Rattle.handler.specs.Space.{held, handleSpace}
-use Rattle.handler.specs.Claim.{Reaches, here, next}
+use Rattle.handler.specs.Claim.{Way, here, next}
 
 -- ════════════════════════════════════════════════════════════════════════════════════════════
 -- What every effect keeps
@@ -105,10 +105,6 @@ module _ (code : Code) where
   pub step-kept : (x : Kernel) {p : ℕ} {s w : List ℤ} → step code x ≡ goes p s w → Kept (x .place) (x .stack) (x .row) p s w
   step-kept x e = rw e at (step-keeps x)
 
-  pub reaches-stack : {x y : Kernel} → Reaches code x y → length (x .stack) ≤ 64 → length (y .stack) ≤ 64
-  reaches-stack here h = h
-  reaches-stack (next {y = y} r e) h = step-kept y e .depth (reaches-stack r h)
-
   -- what a run leaves of steps and row
   record Left (fuel : ℕ) (x : Kernel) (r : Result) : Type 0 where
     steps : r .steps ≤ x .steps + fuel
@@ -128,9 +124,55 @@ module _ (code : Code) where
           let l = h (record { place = p; stack = s; row = w; steps = suc (x .steps) }) in
           record { steps = omega (arith, l .steps); words = l .words ∙ k .words }
 
+-- ════════════════════════════════════════════════════════════════════════════════════════════
+-- A run that does not fail
+-- ════════════════════════════════════════════════════════════════════════════════════════════
+
+abbrev pub Finished : Outcome → Type 0
+Finished returned = Unit
+Finished denied = Unit
+Finished failed = ⊥
+
+module _ (code : Code) where
+  -- it is a way to the instruction that ends it
+  pub record Leads (x : Kernel) (r : Result) : Type 0 where
+    pub last : Kernel
+    pub way : Way code x last
+    pub ending : step code last ≡ ends (r .outcome)
+    pub left : r .row ≡ last .row
+    pub counted : r .steps ≡ suc (last .steps)
+
+  pub run-leads : (fuel : ℕ) (x : Kernel) → length (x .stack) ≤ 64 → Finished (run code fuel x .outcome) → Leads x (run code fuel x)
+  unfolding run
+  run-leads zero x h f = absurd f
+  run-leads (suc fuel) x h f = by (step code x) refl f (λ y. run-leads fuel y)
+    where
+      by : (e : Effect) → step code x ≡ e → Finished (after e x (λ y. run code fuel y) .outcome)
+          → ((y : Kernel) → length (y .stack) ≤ 64 → Finished (run code fuel y .outcome) → Leads y (run code fuel y))
+          → Leads x (after e x (λ y. run code fuel y))
+      by (ends returned) is f on = record { last = x; way = here; ending = is; left = refl; counted = refl }
+      by (ends denied) is f on = record { last = x; way = here; ending = is; left = refl; counted = refl }
+      by (ends failed) is f on = absurd f
+      by (goes p s w) is f on =
+          let kept = step-kept code x is in
+          let few = kept .depth h in
+          let l = on (record { place = p; stack = s; row = w; steps = suc (x .steps) }) few f in
+          record {
+            last = l .last;
+            way = next is (kept .forward) few (l .way);
+            ending = l .ending;
+            left = l .left;
+            counted = l .counted;
+          }
+
 pub handle-steps : (code : List Instruction) (w : List ℤ) → handle code w .steps ≤ length code
 unfolding handle
 handle-steps code w = omega (arith, run-left (getElem? code) (length code) (start w) .steps)
+
+pub handle-leads : (code : List Instruction) (w : List ℤ) → Finished (handle code w .outcome)
+    → Leads (getElem? code) (start w) (handle code w)
+unfolding handle
+handle-leads code w f = run-leads (getElem? code) (length code) (start w) (omega arith) f
 
 -- the same of a handler that a space holds
 pub handleSpace-steps : (space : List ℤ) (count : ℕ) (w : List ℤ) → handleSpace space count w .steps ≤ count

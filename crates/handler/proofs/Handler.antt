@@ -1,29 +1,28 @@
--- The handler of a rule table: what it answers, how long it is, how many steps it takes, what its stack holds.
+-- A fault of the handler of a rule table: what it answers, in how many steps, and that no step of it fails.
 -- Assumes nothing.
-use mathlib.Core.Path.{_≡_, refl, ap, _∙_}
+use mathlib.Core.Path.{_≡_, refl, sym, ap, subst, _∙_}
 use mathlib.Core.Bool.{Bool, true, false}
 use mathlib.Core.List.{List, [], _∷_}
 use mathlib.Core.Option.{some}
-use Prim.Native.Nat.{ℕ, zero, suc, _-_, _≤_}
+use Prim.Native.Nat.{ℕ, zero, suc, _-_}
 use native.Mathlib.Omega.{arith}
-use lib.IntN.{ℤ, pos}
+use lib.IntN.{pos}
 use lib.ListN.{length, getElem?}
 use borrow.Author.Tests.{le-leb}
 use Rattle.word.proofs.Bool.{never}
 use Rattle.program.specs.Command.{Opcode, opcodes, codeOf, supplies}
 use Rattle.program.proofs.Codes.{opcodes-code, code-least, code-most}
-use Rattle.machine.specs.Rule.{Input, present, missing, Key}
+use Rattle.machine.specs.Rule.{Input, present, missing, Key, Verdict, denied, allowed}
 use Rattle.machine.specs.Holds.{Marked, WellMarked}
 use Rattle.policy.specs.Expression.{Rule, Table}
 use Rattle.policy.specs.Write.{RuleWritable, RulesWritable, TableWritable}
 use Rattle.policy.specs.Evaluate.{evalRule, evaluate}
 use Rattle.policy.specs.Row.{faultRow}
-use Rattle.handler.specs.Kernel.{Kernel}
-use Rattle.handler.specs.Kernel.{handle, start}
+use Rattle.handler.specs.Kernel.{ends, handle}
 use Rattle.handler.specs.Translate.{translate}
-use Rattle.handler.specs.Claim.{Handled, Reaches}
+use Rattle.handler.specs.Claim.{outcomeOf, Handled}
 use Rattle.handler.proofs.Exec.{exec, Ending, endingOf, run-exec}
-use Rattle.handler.proofs.Effect.{handle-steps, reaches-stack}
+use Rattle.handler.proofs.Effect.{Finished, handle-steps, handle-leads}
 use Rattle.handler.proofs.Compile.{Readable, Reads}
 use Rattle.handler.proofs.Dispatch.{endingFor, rule-run, dispatch-run}
 
@@ -74,20 +73,25 @@ module _ (t : Table) (k : Key) (well : TableWritable t) (marked : WellMarked k) 
       run-exec (translate t) (length (translate t)) 0 [] (faultRow k) 0 (omega arith)
       ∙ exec-handler
 
+-- it finishes
+outcome-finished : (v : Verdict) → Finished (outcomeOf v)
+outcome-finished denied = tt
+outcome-finished (allowed p r) = tt
+
 -- for every key with the marks of its command the handler answers as the table does: it never fails
-pub handler-run : (t : Table) (k : Key) → TableWritable t → WellMarked k → Handled t k (handle (translate t) (faultRow k))
+pub handler-run : (t : Table) (k : Key) → TableWritable t → WellMarked k
+    → Handled t k (translate t) (handle (translate t) (faultRow k))
 handler-run t k well marked =
     let e = handler-ending t k well marked in
+    let outcome : handle (translate t) (faultRow k) .outcome ≡ outcomeOf (evaluate t k) = ap (λ (x : Ending). x .outcome) e in
+    let l = handle-leads (translate t) (faultRow k) (subst Finished (sym outcome) (outcome-finished (evaluate t k))) in
     record {
-      outcome = ap (λ (x : Ending). x .outcome) e;
+      last = l .last;
+      way = l .way;
+      ending = l .ending ∙ ap ends outcome;
+      outcome = outcome;
       row = ap (λ (x : Ending). x .row) e;
+      left = l .left;
+      counted = l .counted;
       steps = handle-steps (translate t) (faultRow k);
     }
-
--- one fault takes no more kernel steps than the handler has instructions, whatever the row
-pub handler-steps : (t : Table) (w : List ℤ) → handle (translate t) w .steps ≤ length (translate t)
-handler-steps t w = handle-steps (translate t) w
-
--- and the stack never holds more than 64
-pub handler-stack : (t : Table) (w : List ℤ) {y : Kernel} → Reaches (getElem? (translate t)) (start w) y → length (y .stack) ≤ 64
-handler-stack t w r = reaches-stack (getElem? (translate t)) r (omega arith)

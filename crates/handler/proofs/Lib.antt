@@ -6,5 +6,6 @@ pub mod Compile
 pub mod Dispatch
 pub mod Handler
 pub mod Shape
+pub mod Sound
 pub mod Space
 pub mod Readings

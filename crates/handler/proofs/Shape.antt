@@ -9,7 +9,7 @@ use Rattle.policy.specs.Expression.{LabelExpr, empty, place, input1, input2, in
 use Rattle.policy.specs.Expression.{Rule, Table}
 use Rattle.handler.specs.Kernel.{Instruction}
 use Rattle.handler.specs.Translate.{compileLabel, compileCondition, compileAnswer, compileIf, compileRule, guarded, slots, concat}
-use Rattle.handler.specs.Translate.{dispatch, translate}
+use Rattle.handler.specs.Translate.{translate}
 use Rattle.program.specs.Command.{Opcode, opcodes}
 use Rattle.policy.specs.Write.{writeLabel, writeCondition, writeTable, RulesWritable, TableWritable}
 use Rattle.handler.specs.Claim.{Forward, none, straight, branch, deny}
@@ -56,7 +56,7 @@ unfolding writeTable
 bodies-length [] = omega arith
 bodies-length (a ∷ t) = simp length-append (omega (arith, rule-length a, bodies-length t))
 
-rules-length : (os : List Opcode) (t : Table) → RulesWritable os t → length t ≡ length os
+pub rules-length : (os : List Opcode) (t : Table) → RulesWritable os t → length t ≡ length os
 rules-length [] [] w = refl
 rules-length [] (r ∷ t) w = absurd w
 rules-length (o ∷ os) [] w = absurd w
@@ -113,22 +113,15 @@ rule-forward : (a : Rule) → Forward (compileRule a)
 unfolding compileRule
 rule-forward a = if-forward (a .allowed) (compileAnswer a) (answer-forward a)
 
-bodies-forward : (t : Table) → Forward (concat (map compileRule t))
+pub bodies-forward : (t : Table) → Forward (concat (map compileRule t))
 bodies-forward [] = none
 bodies-forward (a ∷ t) = forward-append (rule-forward a) (bodies-forward t)
 
-slots-forward : (bodies : List (List Instruction)) (before : ℕ) (code : List Instruction) → before + length (concat bodies) ≤ length code
-    → Forward code → Forward (slots before bodies ++ code)
+pub slots-forward : (bodies : List (List Instruction)) (before : ℕ) (code : List Instruction)
+    → before + length (concat bodies) ≤ length code → Forward code → Forward (slots before bodies ++ code)
 slots-forward [] before code h f = f
 slots-forward (b ∷ bs) before code h f =
     let l = length-append b (concat bs) in
     branch {d = length bs + before} {rest = slots (before + length b) bs ++ code}
     (simp (length-append, slots-length) (omega arith))
     (slots-forward bs (before + length b) code (omega arith) f)
-
--- every jump is forward or to −1: behind the dispatch as written; the dispatch's own is to instruction 5 + code
-pub handler-forward : (t : Table) → (rest : List Instruction) × (translate t ≡ dispatch ++ rest) × Forward rest
-unfolding translate
-handler-forward t =
-    let bodies = map compileRule t in
-    (slots 0 bodies ++ concat bodies, refl, slots-forward bodies 0 (concat bodies) (omega arith) (bodies-forward t))

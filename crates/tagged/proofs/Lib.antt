@@ -4,3 +4,4 @@ pub mod Counts
 pub mod Following
 pub mod Starting
 pub mod Accepted
+pub mod Reading

@@ -1,16 +1,22 @@
--- The tag engine: what it answers and what every lent run and the rule memory hold at exit, for all arguments.
+-- The tag engine: what it answers and what every lent run and the rule memory hold at exit, for all arguments; and what it promises of
+-- the table that it is given.
 use Prim.Native.Nat.{ℕ}
+use mathlib.Core.Path.{_≡_}
 use mathlib.Core.List.{List}
 use lib.IntN.{ℤ}
 use lib.ListN.{length}
 use Rattle.word.specs.Lay.{laid}
 use Rattle.program.specs.Decode.{Decoded, refused, accepted}
+use Rattle.engine.specs.declared.Ran.{Ran}
+use Rattle.engine.specs.declared.Answer.the-variants as Answer
 use Rattle.engine.specs.Memory.{Memory}
 use Rattle.engine.specs.Start.{given, startOf}
-use Rattle.engine.specs.Ended.{Ended, ended, engineOf}
+use Rattle.engine.specs.Ended.{Ended, ended, engineOf, directly, SameEnd}
+use Rattle.policy.specs.Evaluate.{evaluate}
 use Rattle.policy.specs.Read.{ReadTable, readTable}
 use Rattle.handler.specs.Space.{kernelWords}
 use Rattle.handler.specs.Translate.{handlerOf}
+use Rattle.handler.specs.Claim.{Handles}
 use Rattle.tagging.specs.Consult.{Tag, tag, tagRuler}
 use Rattle.tagged.specs.declared.Tagged.{Tagged}
 use Rattle.tagged.specs.Start.{ownOf}
@@ -48,3 +54,10 @@ taggedOf d rules row m handler fuel =
 unfoldable pub tagged : List ℕ → List ℕ → List ℤ → Memory → List ℤ → ℕ → Left
 tagged sheet bytes row m handler fuel =
     let rules : ReadTable = readTable bytes in taggedOf (startTagged sheet rules row m handler fuel) rules row m handler fuel
+
+-- what is promised where the bytes are a table: its handler is as asked (Sound of the handler crate), and after a run it lies in its space;
+-- and demand 2, answer and lent runs are those of reading the table directly
+abbrev pub Promises : List ℕ → List ℕ → Memory → List ℤ → ℕ → Left → Type 0
+Promises sheet bytes m handler fuel x =
+    Handles (readTable bytes) (λ t code. (r : Ran) → x .ended .answer ≡ Answer.Stopped r
+    → (x .handler ≡ laid (kernelWords code) handler) × SameEnd (x .ended) (directly (evaluate t) sheet m fuel))

@@ -11,7 +11,7 @@ use program::Checked;
 ghost use mathlib.Core.Path.{_≡_};
 ghost use Rattle.step.specs.Lent.{cells, lent};
 ghost use Rattle.engine.specs.Memory.{output, memory};
-ghost use Rattle.tagged.specs.Tagged.{left, endedBy, tagged};
+ghost use Rattle.tagged.specs.Tagged.{left, endedBy, tagged, Promises};
 
 // The answer, the rule memory at the end, the commands that did not match and the kernel steps.
 pub struct Tagged {
@@ -22,7 +22,8 @@ pub struct Tagged {
 }
 
 // Checks everything, and then runs the sheet on the lent cells to one named stop, under the rules of the table. A refusal, of 1 to 9 with
-// its place, leaves every lent run and the rule memory as they came.
+// its place, leaves every lent run and the rule memory as they came. The run is that of reading the table directly, by a handler that never
+// fails.
 pub fn execute(
     sheet: &[u8],
     values: &mut [i64],
@@ -36,7 +37,7 @@ pub fn execute(
     line_labels: &mut [i64],
     fuel: u64,
 ) -> Tagged
-    ensures { λ r. ⌜ left (endedBy r
+    ensures left { λ r. ⌜ left (endedBy r
         (memory (now (program .exit)) (lent (now (stack .exit)) (cells (now (values .exit)) (now (labels .exit))))
         (output (now (numbers .exit)) (now («line_labels» .exit)))))
         (now (handler .exit))
@@ -44,6 +45,14 @@ pub fn execute(
         (memory (now (program .entry)) (lent (now (stack .entry)) (cells (now (values .entry)) (now (labels .entry))))
         (output (now (numbers .entry)) (now («line_labels» .entry))))
         (now (handler .entry)) fuel ⌝ }
+    ensures rules { λ r. ⌜ Promises (now (sheet .entry)) (now (table .entry))
+        (memory (now (program .entry)) (lent (now (stack .entry)) (cells (now (values .entry)) (now (labels .entry))))
+        (output (now (numbers .entry)) (now («line_labels» .entry))))
+        (now (handler .entry)) fuel
+        (left (endedBy r
+        (memory (now (program .exit)) (lent (now (stack .exit)) (cells (now (values .exit)) (now (labels .exit))))
+        (output (now (numbers .exit)) (now («line_labels» .exit)))))
+        (now (handler .exit))) ⌝ }
 {
     let rules = start::rules(table, cache, handler.len());
     let size = rules.size;

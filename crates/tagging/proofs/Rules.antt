@@ -138,7 +138,7 @@ module _ (t : Table) (k : Key) (m : WellMarked k) where
       where
         handled : (x : Result) → handle (translate t) (faultRow k) ≡ x → Ruled t k ws (faulted (fiveOf k) x)
         handled x d =
-            let h : Handled t k x = rw d at (handler-run t k well m) in
+            let h : Handled t k (translate t) x = rw d at (handler-run t k well m) in
             record {
               verdict = rw (h .outcome, h .row) (again-is (evaluate t k) refl);
               row = h .row;

@@ -27,6 +27,8 @@ use Rattle.handler.specs.Kernel.{Instruction}
 use Rattle.handler.specs.Space.{kernelWords}
 use Rattle.handler.specs.Translate.{compileLabel, compileCondition, compileAnswer, compileIf, guarded, compileRule}
 use Rattle.handler.specs.Translate.{slots, concat, dispatch, translate, handlerOf}
+use Rattle.handler.specs.Claim.{Handles}
+use Rattle.handler.proofs.Sound.{read-handles}
 use Rattle.translator.specs.Emit.{Piece, piece, joinCode, flowsCode, eitherCode, partOf, labelPiece, labelCode}
 use Rattle.translator.specs.Emit.{conditionPiece, conditionCode, answerOf, answerCode, guardedOf, guardedCode, rulePiece, ruleCode}
 use Rattle.translator.specs.Emit.{bodiesAt, tableCode, putCode}
@@ -248,12 +250,14 @@ module _ (s : List ℕ) where
       limit true = rules (readRules opcodes s 0) (rules-are opcodes 0)
       limit false = tt
 
--- of bytes that are a table whose handler fits, what is stored is the handler
+-- of bytes that are a table, what is read is the handler
+pub read-code : (s : List ℕ) (t : Table) → readTable s ≡ table t → tableCode s ≡ translate t
+read-code s t e = subst (λ x. Translates x (tableCode s)) e (table-translates s)
+
+-- and is stored where it fits
 pub written-table : (s : List ℕ) (t : Table) (space : List ℤ) → readTable s ≡ table t → 2 * length (translate t) ≤ length space
     → putCode 0 (tableCode s) space ≡ laid (kernelWords (translate t)) space
-written-table s t space e h =
-    let d : tableCode s ≡ translate t = subst (λ x. Translates x (tableCode s)) e (table-translates s) in
-    ap (λ code. putCode 0 code space) d ∙ putCode-laid (translate t) space h
+written-table s t space e h = ap (λ code. putCode 0 code space) (read-code s t e) ∙ putCode-laid (translate t) space h
 
 -- ════════════════════════════════════════════════════════════════════════════════════════════
 -- The answers
@@ -270,3 +274,13 @@ accepted-handler s e = by-table (readTable s) (table-translates s) e
 pub refused-handler : (x : ReadTable) (r : Refusal) → checkAnswer x ≡ Checked.Refused r → handlerOf x ≡ []
 refused-handler (refused q) r e = refl
 refused-handler (table t) r e = absurd (let z : _≡_ {A = ℕ} 0 1 = cc in omega arith)
+
+-- a handler's length: of what is read, of what the bytes are
+abbrev pub Counts : List ℕ → ℕ → Type 0
+Counts s n = Handles (readTable s) (λ t code. n ≡ length code)
+
+pub code-counts : (s : List ℕ) (n : ℕ) → n ≡ length (tableCode s) → Counts s n
+code-counts s n e = read-handles s _ (λ t q. e ∙ ap length (read-code s t q))
+
+pub handler-counts : (s : List ℕ) (n : ℕ) → n ≡ length (handlerOf (readTable s)) → Counts s n
+handler-counts s n e = read-handles s _ (λ t q. e ∙ ap (λ x. length (handlerOf x)) q)

@@ -4,7 +4,10 @@ ghost use mathlib.Core.Path.{_≡_};
 ghost use Prim.Native.Nat.{_+_, _*_, _≤_, _^_};
 ghost use lib.ListN.{length};
 ghost use Rattle.policy.specs.Read.{readTable};
+ghost use Rattle.word.specs.Lay.{laid};
+ghost use Rattle.handler.specs.Space.{kernelWords};
 ghost use Rattle.handler.specs.Translate.{handlerOf};
+ghost use Rattle.handler.specs.Claim.{Handles};
 ghost use Rattle.translator.specs.Emit.{partOf, twoPieces, joinCode, flowsCode, eitherCode, labelCode, conditionCode};
 ghost use Rattle.translator.specs.Emit.{answerCode, guardedCode, ruleCode, tableCode, putAll, putCode, Emitted};
 use handler::code;
@@ -361,24 +364,29 @@ fn emit_table(bytes: &[u8], space: &mut [i64]) -> usize
 }
 
 // How many instructions `write` stores of bytes where there is room, whatever the bytes: what a space of one word is given, which has
-// room for none.
+// room for none. Of a table they are its handler's.
 pub fn instructions(bytes: &[u8]) -> usize
-    ensures { λ r. ⌜ r ≡ length (tableCode (now (bytes .entry))) ⌝ }
+    ensures count { λ r. ⌜ r ≡ length (tableCode (now (bytes .entry))) ⌝ }
+    ensures handler { λ r. ⌜ Handles (readTable (now (bytes .entry))) (λ t code. r ≡ length code) ⌝ }
 {
     let mut none = [0i64; 1];
     emit_table(bytes, &mut none)
 }
 
-// Stores the handler of a table's bytes without a check: as far as there is room, whatever the bytes.
+// Stores the handler of a table's bytes without a check: as far as there is room, whatever the bytes. Where the bytes are a table and there
+// is room for its handler, that lies at the start of the space.
 pub fn write(bytes: &[u8], space: &mut [i64])
-    ensures { λ _. ⌜ now (space .exit) ≡ putCode 0 (tableCode (now (bytes .entry))) (now (space .entry)) ⌝ }
+    ensures written { λ _. ⌜ now (space .exit) ≡ putCode 0 (tableCode (now (bytes .entry))) (now (space .entry)) ⌝ }
+    ensures handler { λ _. ⌜ Handles (readTable (now (bytes .entry))) (λ t code. 2 * length code ≤ length (now (space .entry))
+        → now (space .exit) ≡ laid (kernelWords code) (now (space .entry))) ⌝ }
 {
     emit_table(bytes, space);
 }
 
 // How many instructions the handler of a table has; bytes that are no table have none.
 pub fn count(bytes: &[u8]) -> usize
-    ensures { λ r. ⌜ r ≡ length (handlerOf (readTable (now (bytes .entry)))) ⌝ }
+    ensures count { λ r. ⌜ r ≡ length (handlerOf (readTable (now (bytes .entry)))) ⌝ }
+    ensures handler { λ r. ⌜ Handles (readTable (now (bytes .entry))) (λ t code. r ≡ length code) ⌝ }
 {
     let checked = check_table(bytes);
     match checked {

@@ -1,6 +1,6 @@
 -- `exports::luvrodan_tagged` meets its contract.
 -- Assumes nothing.
-use Rattle.exports.proofs.Leaving.{tagged-left}
+use Rattle.exports.proofs.Leaving.{tagged-left, promises-left}
 use borrow.Author.Needs.{needs}
 use Rattle.exports.proofs.luvrodan_tagged.Statement.{statement}
 use Rattle.exports.proofs.luvrodan_tagged.Tie as tie
@@ -10,8 +10,11 @@ returns c =
     let l = c .before .before in
     let e = l .before .before .before .before .before .before .before .before .before in
     let g = e .before .before .before .before .before .before .before .before in
-    tagged-left _ _ _ _ _ _ _ _ (e .execute .result) (g .given .result .words) _ _
-    (c .of-answer .ensures) (g .given .ensures) (l .leave .ensures) (e .execute .ensures)
+    let x = e .execute .ensures in (
+      tagged-left _ _ _ _ _ _ _ _ (e .execute .result) (g .given .result .words) _ _
+          (c .of-answer .ensures) (g .given .ensures) (l .leave .ensures) (x .0),
+      promises-left _ _ _ _ _ _ _ _ (g .given .ensures) (x .0) (x .1),
+    )
 
 pub luvrodan-tagged-spec : {M : Type 1} → statement M
 luvrodan-tagged-spec =

@@ -45,7 +45,7 @@ module _ (e : tie.After-execute) where
   ends =
       let at-bytes = e .before .before .before .before .before .before .before .before .before .before in
       let at-empty = e .before .before .before .before .before .before in
-      e .execute .ensures
+      e .execute .ensures .0
       ∙ ap₂ (λ (t : List ℕ) (row : List ℤ). tagged sheet t row (lentFor (cells values labels)) (zeros 302) (start .args .allowance))
       (at-bytes .bytes .ensures)
       (at-empty .empty .ensures)

@@ -1,7 +1,7 @@
 -- `tagged::execute` meets its contract: refused, nothing is written; accepted, the loop's run is the tag engine's.
 -- Assumes nothing.
 use native.Mathlib.Omega.{arith}
-use mathlib.Core.Path.{_≡_, sym, ap, _∙_}
+use mathlib.Core.Path.{_≡_, sym, subst, ap, _∙_}
 use mathlib.Core.List.{List}
 use Prim.Native.Nat.{ℕ, _≤_}
 use denote.Ref.{now}
@@ -25,11 +25,15 @@ use Rattle.translator.proofs.Translating.{written-table}
 use Rattle.tagging.specs.Consult.{tag}
 use Rattle.tagged.specs.declared.start.Found.{Found}
 use Rattle.tagged.specs.Ruling.{tagWords}
-use Rattle.tagged.specs.Tagged.{tagOf, startTagged}
+use Rattle.tagged.specs.Tagged.{Left, tagOf, startTagged, tagged, Promises}
 use Rattle.tagged.proofs.Accepted.{Ready, start-ready, handler-few, execute-refused, execute-accepted}
+use Rattle.tagged.proofs.Reading.{tagged-promises}
 use borrow.Author.Needs.{needs}
 use Rattle.tagged.proofs.execute.Statement.{statement}
 use Rattle.tagged.proofs.execute.Tie as tie
+
+sized : (s : tie.Start) → length (s .args .cache .words) ≡ 7
+sized s = search needs
 
 -- the checks were made
 module _ (k : tie.After-check) where
@@ -59,6 +63,15 @@ module _ (k : tie.After-check) where
 
   octets : Bytes sheet
   octets i = omega (arith, k .before .before .before .before .shared-slice-known .given i)
+
+  -- the rule memory has seven words
+  seven : length row ≡ 7
+  seven = sized start
+
+  -- what the definition leaves is promised, so what is equal to it
+  promised : (x : Left) → x ≡ tagged sheet rules row runs space fuel
+      → (x ≡ tagged sheet rules row runs space fuel) × Promises sheet rules runs space fuel x
+  promised x e = (e, subst (Promises sheet rules runs space fuel) (sym e) (tagged-promises sheet rules row seven runs space fuel))
 
   abbrev answered : Decoded
   answered = startTagged sheet (readTable rules) row runs space fuel
@@ -105,8 +118,9 @@ go-requires c κs =
 returns : tie.Need-returns
 returns c =
     let k = c .before .before .before in
-    execute-refused (sheet k) (rules k) (row k) (runs k) (space k) (fuel k) (c .before .checked .given .0 .0)
-    (sym (c .before .checked .given .1) ∙ checked k)
+    promised k _
+    (execute-refused (sheet k) (rules k) (row k) (runs k) (space k) (fuel k) (c .before .checked .given .0 .0)
+    (sym (c .before .checked .given .1) ∙ checked k))
 
 returns-2 : tie.Need-returns-2
 returns-2 c =
@@ -123,13 +137,14 @@ returns-2 c =
     let y = x .1 .1 .1 in
     let r = g .go .result in
     let ω = tagWords (handleSpace handled (size a)) in
-    execute-accepted (sheet k) (rules k) (row k) (runs k) (space k) (fuel k) (octets k) (program a .0) (program a .1) (t .0) (t .1)
+    promised k _
+    (execute-accepted (sheet k) (rules k) (row k) (runs k) (space k) (fuel k) (octets k) (program a .0) (program a .1) (t .0) (t .1)
     (count a) (program a .2) loaded handled (size a)
     (load .write .ensures ∙ written-accepted (sheet k) (program a .0) _ (t .1 .fine .decoded) (t .1 .fine .program))
-    (written .write2 .ensures ∙ written-table (rules k) (t .0) _ (t .1 .rules) (t .1 .fits)) (size-is a)
+    (written .write2 .ensures .0 ∙ written-table (rules k) (t .0) _ (t .1 .rules) (t .1 .fits)) (size-is a)
     (done (r .ran) (tag (r .cache .words) (r .faults) (r .kernel)) (lent (x .0) (cells (x .1 .0) (x .1 .1 .0))) (output (y .0) (y .1 .0)))
     (g .go .ensures
-    ∙ ap (λ n. loopOf ω (count a) n loaded (fuel k) 0 started (tagOf (row k)) (runs k .lent) (runs k .output)) (roomy .room .ensures))
+    ∙ ap (λ n. loopOf ω (count a) n loaded (fuel k) 0 started (tagOf (row k)) (runs k .lent) (runs k .output)) (roomy .room .ensures)))
 
 pub execute-spec : {M : Type 1} → statement M
 execute-spec =

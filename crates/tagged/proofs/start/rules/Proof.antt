@@ -14,7 +14,7 @@ returns c =
     let i = k .before .inspect in
     found-is (now (a .table)) (a .cache .words) (i .result) (i .ensures) (a .words) _ _ _ _
     (⊎-elim
-    (λ w. rw (w .3, w .4, w .2 .ensures) (sized-accepted _ _ _ (i .ensures) (w .1 .given .1)))
+    (λ w. rw (w .3, w .4, w .2 .ensures .0) (sized-accepted _ _ _ (i .ensures) (w .1 .given .1)))
     (λ w. rw (w .3, w .4) (sized-refused _ _ _ (i .ensures) _ (w .1 .given .1)))
     (c .before .match .came))
     (k .kept-if .ensures) (c .kept-if2 .ensures)
