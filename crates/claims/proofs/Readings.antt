@@ -1,7 +1,7 @@
--- Document 01's twelve starred readings (specs/Reading.antt), computed: each gives what it must.
+-- Document 01's twelve starred readings and what they leave open (specs/Reading.antt), computed: each gives what it must.
 -- Assumes nothing.
 use mathlib.Core.Path.{_≡_, refl}
-use mathlib.Core.List.{map}
+use mathlib.Core.List.{_++_, map}
 use Rattle.word.specs.Digits.{digitsOf, valueOf}
 use Rattle.word.specs.Wrap.{residue, signed, wrap, addWrap, subWrap}
 use Rattle.word.specs.Field.{bitsAt, unsignedAt, signedAt, bytesOf}
@@ -29,9 +29,9 @@ use Rattle.tagged.specs.Tagged.{tagged}
 use Rattle.report.specs.Job.{fourAt, itemAt, readFrom, readJob}
 use Rattle.report.specs.Lines.{lineText, linesText}
 use Rattle.report.specs.Page.{runText, pageOf}
-use Rattle.claims.specs.Reading.{given, computed, expected, readings}
+use Rattle.claims.specs.Reading.{given, computed, expected, readings, others}
 
-pub readings-hold : map computed readings ≡ map expected readings
+pub readings-hold : map computed (readings ++ others) ≡ map expected (readings ++ others)
 unfolding given pageOf runText readJob readFrom itemAt fourAt lineText linesText digitsOf valueOf residue signed wrap addWrap subWrap
     bitsAt unsignedAt signedAt bytesOf laid digitChar numeral digitCount natural decimal hexadecimal union subset join flows stored
     lowLabel opcodeOf decodeFrom decode encode request execute step asked run along paired labelsLimit tokenOf tokenAt readLabel

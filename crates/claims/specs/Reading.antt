@@ -1,68 +1,70 @@
--- Document 01's twelve starred readings, R1 to R12: what is asked of the tag engine, of check 7 and of the page, and what each must give.
--- proofs/Readings.antt computes them.
-use Prim.Native.Nat.{ℕ, _^_, _-_}
+-- Document 01's twelve starred readings, R1 to R12, and what they leave open: what is asked of the tag engine and of the page, and what each
+-- must give. proofs/Readings.antt computes them.
+use Prim.Native.Nat.{ℕ, _^_, _*_, _-_}
 use mathlib.Core.List.{List, [], _∷_, _++_, map}
 use lib.IntN.{ℤ, pos, negsuc}
+use lib.ListN.{replicate}
 use Rattle.program.specs.declared.Command.{Command}
-use Rattle.program.specs.declared.Command.the-variants.{Add, Output, Push, Load, Store, Jump, Bnz, Call, Ret}
+use Rattle.program.specs.declared.Command.the-variants.{Add, Sub, Output, Push, Load, Store, Jump, Bnz, Call, Ret}
 use Rattle.program.specs.Encode.{encode}
-use Rattle.machine.specs.Atom.{Line}
+use Rattle.machine.specs.Atom.{Atom, Line}
+use Rattle.machine.specs.Step.{atom}
 use Rattle.step.specs.Lent.{cells}
 use Rattle.engine.specs.declared.Answer.{Answer}
 use Rattle.engine.specs.declared.Answer.the-variants as Answer
-use Rattle.engine.specs.declared.start.Limit.{Limit}
-use Rattle.engine.specs.declared.start.Limit.the-variants.{Broken, Kept}
-use Rattle.engine.specs.Memory.{Memory}
+use Rattle.engine.specs.Memory.{output, Memory}
+use Rattle.engine.specs.Memory as Lent
 use Rattle.engine.specs.Ended.{Ended}
-use Rattle.policy.specs.Read.{readTable}
 use Rattle.policy.specs.Standard.{standardBytes}
 use Rattle.tagging.specs.Consult.{Tag}
-use Rattle.tagged.specs.Start.{rowLimit}
-use Rattle.report.specs.Page.{endFor, pageOf}
-use Rattle.claims.specs.Privacy.{linesIn}
+use Rattle.tagged.specs.Tagged.{tagged}
+use Rattle.report.specs.Page.{zeros, lentFor, pageOf}
+use Rattle.claims.specs.Privacy.{cellsIn, linesIn}
 
 -- ════════════════════════════════════════════════════════════════════════════════════════════
 -- What is asked, and what is answered
 -- ════════════════════════════════════════════════════════════════════════════════════════════
 
--- a program, the number in C1, and the allowance
+-- a program, the number in C1, the rule memory, how many lines fit, and the allowance
 pub record Setting : Type 0 where
   pub program : List Command
   pub c1 : ℤ
+  pub row : List ℤ
+  pub room : ℕ
   pub fuel : ℕ
 
--- a run; the rule memory that it leaves; a rule memory under check 7; a job's page
+-- a start; the cells and the rule memory that its run leaves; a job's page
 pub data Question : Type 0 where
-  runOf : Setting → Question
-  memoryAfter : Setting → Question
-  checkOf : List ℤ → Question
+  startOf : Setting → Question
+  cellsAfter : Setting → Question
+  rowAfter : Setting → Question
   pageFor : List ℕ → Question
 
--- a refused start; a run's stop, steps and lines; the seven words; accepted or a refusal's number; the bytes
+-- a refusal's number and place; a run's stop, steps and lines; the cells; the seven words; the bytes
 pub data Given : Type 0 where
-  refused : ℕ → Given
+  refused : (number place : ℕ) → Given
   run : (stop steps : ℕ) → List Line → Given
+  memory : List Atom → Given
   words : List ℤ → Given
-  accepted : Given
   page : List ℕ → Given
 
--- the tag engine on the sheet's bytes, with the page program's spaces: the standard table, an empty rule memory, C0 = 7 label 0 and C1 with
--- label 1
+-- the tag engine on the sheet's bytes: the standard table, C0 = 7 label 0 and C1 with label 1, and the page program's spaces but for its
+-- lines
 abbrev pub execute : Setting → Ended Tag
-execute s = endFor (cells (pos 7 ∷ s .c1 ∷ []) (pos 0 ∷ pos 1 ∷ [])) (s .fuel) (encode (s .program)) .ended
+execute s =
+    let m : Memory = lentFor (cells (pos 7 ∷ s .c1 ∷ []) (pos 0 ∷ pos 1 ∷ [])) in
+    let lines = zeros (s .room) in
+    tagged (encode (s .program)) standardBytes (s .row) (Lent.memory (m .program) (m .lent) (output lines lines)) (zeros (2 * 151)) (s .fuel)
+    .ended
 
 abbrev pub ending : Answer → Memory → Given
-ending (Answer.Refused r) m = refused (r .code)
+ending (Answer.Refused r) m = refused (r .code) (r .position)
 ending (Answer.Stopped x) m = run (x .stop) (x .steps) (linesIn x m)
 
-abbrev pub checked : Limit → Given
-checked (Broken r) = refused (r .code)
-checked Kept = accepted
-
 unfoldable pub given : Question → Given
-given (runOf s) = let e : Ended Tag = execute s in ending (e .answer) (e .memory)
-given (memoryAfter s) = words (execute s .ruler .row)
-given (checkOf row) = checked (rowLimit (readTable standardBytes) row)
+given (startOf s) = let e : Ended Tag = execute s in ending (e .answer) (e .memory)
+given (cellsAfter s) = memory (cellsIn (execute s .memory))
+given (rowAfter s) = words (execute s .ruler .row)
 given (pageFor job) = page (pageOf job)
 
 -- one thing that a reading says
@@ -87,17 +89,27 @@ fact q g = record { asked = q; said = g }
 abbrev pub line : ℤ → ℕ → Line
 line n l = record { number = n; label = l }
 
--- C1 = 5, and an allowance that suffices
-abbrev pub usual : List Command → Setting
-usual program = record { program = program; c1 = pos 5; fuel = 1_000_000 }
+-- an empty rule memory, and output space and an allowance that suffice
+abbrev pub sufficing : List Command → ℤ → Setting
+sufficing program c1 = record { program = program; c1 = c1; row = zeros 7; room = 16; fuel = 1_000_000 }
 
--- C1 = 5, allowance 0
+-- C1 = 5
+abbrev pub usual : List Command → Setting
+usual program = sufficing program (pos 5)
+
+-- allowance 0; room for one line; a rule memory, on the empty sheet
 abbrev pub unpaid : List Command → Setting
-unpaid program = record { program = program; c1 = pos 5; fuel = 0 }
+unpaid program = record { program = program; c1 = pos 5; row = zeros 7; room = 16; fuel = 0 }
+
+abbrev pub narrow : List Command → Setting
+narrow program = record { program = program; c1 = pos 5; row = zeros 7; room = 1; fuel = 1_000_000 }
+
+abbrev pub from : List ℤ → Setting
+from row = record { program = []; c1 = pos 5; row = row; room = 16; fuel = 1_000_000 }
 
 -- a run is all that a reading says
 abbrev pub only : Setting → Given → List Fact
-only s g = fact (runOf s) g ∷ []
+only s g = fact (startOf s) g ∷ []
 
 -- R1 as a job, and the lines of its pages:
 -- an 8-byte number and a 4-byte field, below 256
@@ -115,10 +127,12 @@ abbrev pub sheetR1 : List ℕ
 sheetR1 =
     push 1 ++ (0x06 ∷ []) ++ push 0 ++ (0x06 ∷ 0x01 ∷ 0x04 ∷ []) ++ push 0 ++ (0x06 ∷ 0x04 ∷ [])
 
--- C0 = 7 label 0, C1 = 5 label 1
-abbrev pub jobR1 : (reader : ℕ) → List ℕ
-jobR1 reader =
-    (0x40 ∷ eight 7) ++ four 0 ++ (0x40 ∷ eight 5) ++ four 1 ++ (0x42 ∷ four reader) ++ (0x43 ∷ sheetR1)
+-- C0 = 7 label 0, C1 = 5 label 1; then what is said of the reader, and the sheet
+abbrev pub jobR1 : List ℕ → List ℕ
+jobR1 reader = (0x40 ∷ eight 7) ++ four 0 ++ (0x40 ∷ eight 5) ++ four 1 ++ reader ++ (0x43 ∷ sheetR1)
+
+abbrev pub reader : ℕ → List ℕ
+reader set = 0x42 ∷ four set
 
 -- `7 00000000`
 abbrev pub lineSeven : List ℕ
@@ -143,17 +157,17 @@ abbrev pub readings : List (List Fact)
 readings =
     -- R1: a sum of a cell of label 1 and one of label 0 has label 1; for reader 1 the page has both lines, for reader 0 the second only
     (fact
-    (runOf (usual (Push (pos 1) ∷ Load ∷ Push (pos 0) ∷ Load ∷ Add ∷ Output ∷ Push (pos 0) ∷ Load ∷ Output ∷ [])))
+    (startOf (usual (Push (pos 1) ∷ Load ∷ Push (pos 0) ∷ Load ∷ Add ∷ Output ∷ Push (pos 0) ∷ Load ∷ Output ∷ [])))
     (run 0 9 (line (pos 12) 1 ∷ line (pos 7) 0 ∷ []))
-    ∷ fact (pageFor (jobR1 1)) (page (lineTwelve ++ lineSeven))
-    ∷ fact (pageFor (jobR1 0)) (page lineSeven)
+    ∷ fact (pageFor (jobR1 (reader 1))) (page (lineTwelve ++ lineSeven))
+    ∷ fact (pageFor (jobR1 (reader 0))) (page lineSeven)
     ∷ [])
     -- R2, R3: what is written after a branch on a cell of label 1 has label 1, taken or not
     ∷ only (usual branching) (run 0 5 (line (pos 9) 1 ∷ []))
-    ∷ only (record { program = branching; c1 = pos 0; fuel = 1_000_000 }) (run 0 7 (line (pos 0) 1 ∷ line (pos 9) 1 ∷ []))
+    ∷ only (sufficing branching (pos 0)) (run 0 7 (line (pos 0) 1 ∷ line (pos 9) 1 ∷ []))
     -- R4: after such a branch a cell of label 0 may not be written
-    ∷ (fact (runOf storing) (run 6 5 [])
-    ∷ fact (memoryAfter storing) (words (pos 7 ∷ pos 1 ∷ pos 0 ∷ pos 0 ∷ pos 0 ∷ negsuc 0 ∷ negsuc 0 ∷ []))
+    ∷ (fact (startOf storing) (run 6 5 [])
+    ∷ fact (rowAfter storing) (words (pos 7 ∷ pos 1 ∷ pos 0 ∷ pos 0 ∷ pos 0 ∷ negsuc 0 ∷ negsuc 0 ∷ []))
     ∷ [])
     -- R5: after a return the place has the label that it had at the call
     ∷ only
@@ -168,6 +182,30 @@ readings =
     ∷ only (usual (Ret ∷ [])) (run 4 0 [])
     ∷ only (usual (Push (pos 2) ∷ Load ∷ [])) (run 5 1 [])
     -- R11, R12: Add at place label 0 of two labels 1: the result's label is 1 and not 0
-    ∷ (fact (checkOf (pos 1 ∷ pos 0 ∷ pos 1 ∷ pos 1 ∷ negsuc 0 ∷ pos 0 ∷ pos 1 ∷ [])) accepted ∷ [])
-    ∷ (fact (checkOf (pos 1 ∷ pos 0 ∷ pos 1 ∷ pos 1 ∷ negsuc 0 ∷ pos 0 ∷ pos 0 ∷ [])) (refused 7) ∷ [])
+    ∷ only (from (pos 1 ∷ pos 0 ∷ pos 1 ∷ pos 1 ∷ negsuc 0 ∷ pos 0 ∷ pos 1 ∷ [])) (run 0 0 [])
+    ∷ only (from (pos 1 ∷ pos 0 ∷ pos 1 ∷ pos 1 ∷ negsuc 0 ∷ pos 0 ∷ pos 0 ∷ [])) (refused 7 0)
+    ∷ []
+
+-- what they leave open
+abbrev pub storingLoaded : Setting
+storingLoaded = usual (Push (pos 1) ∷ Load ∷ Push (pos 0) ∷ Store ∷ [])
+
+abbrev pub others : List (List Fact)
+others =
+    -- R1's page where nothing is said of the reader: that for reader 0
+    (fact (pageFor (jobR1 [])) (page lineSeven) ∷ [])
+    -- 5 − 1: top − next
+    ∷ only (usual (Push (pos 1) ∷ Push (pos 5) ∷ Sub ∷ Output ∷ [])) (run 0 4 (line (pos 4) 0 ∷ []))
+    -- a Store that is carried out: top is the address, next the number, and the cell has its label
+    ∷ (fact (startOf storingLoaded) (run 0 4 [])
+    ∷ fact (cellsAfter storingLoaded) (memory (atom (pos 5) 1 ∷ atom (pos 5) 1 ∷ []))
+    ∷ [])
+    -- stop 2: a place outside; stop 3: Add does not reach past a frame
+    ∷ only (usual (Push (pos 9) ∷ Jump ∷ [])) (run 2 2 [])
+    ∷ only (usual (Push (pos 1) ∷ Push (pos 3) ∷ Call ∷ Add ∷ [])) (run 3 3 [])
+    -- 256 Pushes end; stop 7: the 257th
+    ∷ only (usual (replicate 256 (Push (pos 0)))) (run 0 256 [])
+    ∷ only (usual (replicate 257 (Push (pos 0)))) (run 7 256 [])
+    -- stop 8: a second line, where one fits
+    ∷ only (narrow (Push (pos 1) ∷ Output ∷ Push (pos 2) ∷ Output ∷ [])) (run 8 3 (line (pos 1) 0 ∷ []))
     ∷ []
