@@ -1,6 +1,6 @@
 -- The handler of document 01's standard table at typical keys: how it ends, the row that it leaves, and how many kernel steps it takes.
 -- proofs/Readings.antt computes them.
-use Prim.Native.Nat.{ℕ}
+use Prim.Native.Nat.{ℕ, _≤_}
 use mathlib.Core.List.{List, [], _∷_}
 use lib.IntN.{pos}
 use Rattle.program.specs.Command.{Opcode, add, sub, pop, output, push, load, store, jump, bnz, call, ret}
@@ -47,3 +47,7 @@ readings =
     ∷ allows (key call 1 (present 2) missing missing) 3 1 19
     ∷ allows (key ret 3 (present 1) missing missing) 1 0 15
     ∷ []
+
+-- whatever the key, a fault takes 15 to 33 kernel steps under the standard table
+abbrev pub Steps : Type 0
+Steps = (k : Key) → let n = handle (translate standardTable) (faultRow k) .steps in (15 ≤ n) × (n ≤ 33)
