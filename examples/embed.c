@@ -1,6 +1,8 @@
 /*
- * Prints the page of document 01's first reading, for a reader who is cleared for owner 0.
+ * Prints the page of a sheet that adds a public and a secret number, for a reader who is cleared for owner 0.
+ * docs/MANUAL.md has the bytes of jobs.
  *
+ *     rt staticlib exports
  *     cc -I include examples/embed.c target/staticlib/libexports.a -o embed
  */
 #include <luvrodan.h>

@@ -1,5 +1,7 @@
-//! Prints the page of document 01's first reading, for a reader who is cleared for owner 0.
+//! Prints the page of a sheet that adds a public and a secret number, for a reader who is cleared for owner 0.
+//! docs/MANUAL.md has the bytes of jobs.
 //!
+//!     rt staticlib exports
 //!     LUVRODAN_ARCHIVE=target/staticlib/libexports.a cargo run --offline --release -p luvrodan --example embed
 
 use luvrodan::{page, Atom, Machine, Refusal};

@@ -1,7 +1,7 @@
 /*
  * The labelled sheet machine: the C interface to the proved engines.
  *
- * "Document 01" is the description of the machine; its numbers of commands, refusals and stops are used here.
+ * docs/MANUAL.md describes the machine; its numbers of commands, refusals and stops are used here.
  *
  * Every run of words or bytes is lent as a pointer and the number of its elements, for the time of the call. A
  * pointer is never null and is aligned for its element, also where the number is 0. A run that is not const overlaps
@@ -20,7 +20,7 @@
 extern "C" {
 #endif
 
-/* Limits of document 01. */
+/* Limits. */
 #define LUVRODAN_COMMAND_LIMIT 4096      /* commands of a sheet */
 #define LUVRODAN_CELL_LIMIT 1024         /* cells */
 #define LUVRODAN_TABLE_LIMIT 512         /* bytes of a rule table */
@@ -61,7 +61,7 @@ enum {
 
 /*
  * What a run came to. Where refusal is not 0, position is the refusal's place and every later field is 0. Where it
- * is 0, position is 0 and the rest is as document 01 gives it for the run's stop; faults and kernel_steps are 0 from
+ * is 0, position is 0 and the rest says where the run stopped and what it counted; faults and kernel_steps are 0 from
  * the plain engine.
  */
 typedef struct {

@@ -75,7 +75,7 @@ pub struct Report {
 }
 
 impl Refusal {
-    /// The refusal's number in document 01.
+    /// The refusal's number, as docs/MANUAL.md lists them.
     pub fn number(self) -> u64 {
         match self {
             Refusal::TooManyCommands { .. } => 1,
@@ -90,7 +90,7 @@ impl Refusal {
         }
     }
 
-    /// The refusal's place in document 01.
+    /// The refusal's place, as docs/MANUAL.md says it for its number.
     pub fn place(self) -> u64 {
         match self {
             Refusal::TooManyCommands { offset }
@@ -114,7 +114,7 @@ impl fmt::Display for Refusal {
 impl Error for Refusal {}
 
 impl Stop {
-    /// The stop's number in document 01.
+    /// The stop's number, as docs/MANUAL.md lists them.
     pub fn number(self) -> u64 {
         self as u64
     }

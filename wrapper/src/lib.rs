@@ -1,4 +1,4 @@
-//! The labelled sheet machine, for Rust programs: the proved engines behind safe functions.
+//! The labelled sheet machine, for Rust programs: the proved engines behind safe functions. docs/MANUAL.md describes it.
 //!
 //! [`Machine`] owns all memory and is the easy way; [`plain`] and [`tagged`] run on memory that the caller lends;
 //! [`page`] makes a page of a job. A start that breaks a limit is a [`Refusal`] and changes nothing; any other run
