@@ -142,13 +142,14 @@ module _ (code : Code) where
     pub left : r .row ≡ last .row
     pub counted : r .steps ≡ suc (last .steps)
 
-  pub run-leads : (fuel : ℕ) (x : Kernel) → length (x .stack) ≤ 64 → Finished (run code fuel x .outcome) → Leads x (run code fuel x)
+  pub run-leads : (fuel : ℕ) (x : Kernel) → length (x .stack) ≤ stackLimit → Finished (run code fuel x .outcome)
+      → Leads x (run code fuel x)
   unfolding run
   run-leads zero x h f = absurd f
   run-leads (suc fuel) x h f = by (step code x) refl f (λ y. run-leads fuel y)
     where
       by : (e : Effect) → step code x ≡ e → Finished (after e x (λ y. run code fuel y) .outcome)
-          → ((y : Kernel) → length (y .stack) ≤ 64 → Finished (run code fuel y .outcome) → Leads y (run code fuel y))
+          → ((y : Kernel) → length (y .stack) ≤ stackLimit → Finished (run code fuel y .outcome) → Leads y (run code fuel y))
           → Leads x (after e x (λ y. run code fuel y))
       by (ends returned) is f on = record { last = x; way = here; ending = is; left = refl; counted = refl }
       by (ends denied) is f on = record { last = x; way = here; ending = is; left = refl; counted = refl }
@@ -159,7 +160,7 @@ module _ (code : Code) where
           let l = on (record { place = p; stack = s; row = w; steps = suc (x .steps) }) few f in
           record {
             last = l .last;
-            way = next is (kept .forward) few (l .way);
+            way = next is (kept .forward) (omega (arith, few)) (l .way);
             ending = l .ending;
             left = l .left;
             counted = l .counted;
