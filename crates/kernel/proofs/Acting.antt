@@ -31,7 +31,7 @@ use Rattle.handler.specs.Space.{codeOf, known}
 use Rattle.handler.proofs.Space.{unknown-code}
 use Rattle.word.specs.Choose.{choose}
 use Rattle.kernel.specs.Words.{topped, stackOf, registers, below, moved, wholeOf, ending, going, effectOf}
-use Rattle.kernel.specs.Words.{DoesOn, Does, Acts, folding, combined, jumpingTo, branching}
+use Rattle.kernel.specs.Words.{DoesOn, Does, Acts, folding, combined, jumpingFrom}
 use Rattle.kernel.proofs.Words.{lying-set, lying-topped, topped-at, topped-push, stack-length, below-stack}
 use Rattle.kernel.proofs.Words.{value-one, value-none, values-two, values-none}
 
@@ -196,28 +196,24 @@ module _ (s : Registers) (w row : List ℤ) (e : length row ≡ 7) where
   if-goes true n = going-effect (moved s n) w row e
   if-goes false n = refl
 
-  jump-effect : (z : ℤ) → effectOf (jumpingTo (wholeOf z) s) w row ≡ jumping (s .place) z (stackOf s w) row
-  jump-effect (pos n) = if-goes (ltb (s .place) n) n
-  jump-effect (negsuc zero) = refl
-  jump-effect (negsuc (suc n)) = rw (eqb·suc-zero n)
-
-  forward : (p n : ℕ) → ltb 0 n ≡ ltb p (p + n)
-  forward p zero = sym (le-ltb p (p + 0) (omega arith))
-  forward p (suc n) = lt-ltb 0 (suc n) (omega arith) ∙ sym (lt-ltb p (p + suc n) (omega arith))
-
-  branch-effect : (z : ℤ) → effectOf (branching (wholeOf z) s) w row ≡ jumping (s .place) (pos (s .place) +ℤ z) (stackOf s w) row
-  branch-effect (pos n) = rw (forward (s .place) n) (if-goes (ltb (s .place) (s .place + n)) (s .place + n))
-  branch-effect (negsuc n) = by (s .place) (ltb (s .place) (suc n)) refl (eqb n (s .place)) refl
+  jump-effect : (base : ℕ) (z : ℤ) → base ≤ s .place
+      → effectOf (jumpingFrom base (wholeOf z) s) w row ≡ jumping (s .place) (pos base +ℤ z) (stackOf s w) row
+  jump-effect base (pos n) h = if-goes (ltb (s .place) (base + n)) (base + n)
+  jump-effect base (negsuc n) h = by (ltb base (suc n)) refl (eqb n base) refl
     where
-      by : (p : ℕ) (b : Bool) → ltb p (suc n) ≡ b → (x : Bool) → eqb n p ≡ x
+      by : (b : Bool) → ltb base (suc n) ≡ b → (x : Bool) → eqb n base ≡ x
           → effectOf (choose x (ending How.Denied) (ending How.Failed)) w row
-          ≡ jumping p (cond b (negsuc (suc n - suc p)) (pos (p - suc n))) (stackOf s w) row
-      by p true t true f = let q : suc n - suc p ≡ 0 = omega (arith, eqb-true n p f) in rw q
-      by p true t false f =
-          let q : suc n - suc p ≡ suc (n - p - 1) = omega (arith, eqb-false n p f, ltb-true p (suc n) t) in
+          ≡ jumping (s .place) (cond b (negsuc (suc n - suc base)) (pos (base - suc n))) (stackOf s w) row
+      by true t true f = let q : suc n - suc base ≡ 0 = omega (arith, eqb-true n base f) in rw q
+      by true t false f =
+          let q : suc n - suc base ≡ suc (n - base - 1) = omega (arith, eqb-false n base f, ltb-true base (suc n) t) in
           rw q
-      by p false t true f = absurd (omega (arith, eqb-true n p f, ltb-false p (suc n) t))
-      by p false t false f = rw (le-ltb p (p - suc n) (omega (arith, ltb-false p (suc n) t)))
+      by false t true f = absurd (omega (arith, eqb-true n base f, ltb-false base (suc n) t))
+      by false t false f = rw (le-ltb (s .place) (base - suc n) (omega (arith, h)))
+
+from-zero : (z : ℤ) → pos 0 +ℤ z ≡ z
+from-zero (pos n) = let e : 0 + n ≡ n = omega arith in ap pos e
+from-zero (negsuc n) = let e : suc n - 1 ≡ n = omega arith in rw (lt-ltb 0 (suc n) (omega arith), e)
 
 pub whole-small : (z : ℤ) (n : ℕ) → SFits w64 z → wholeOf z ≡ Whole.At n → n < 2 ^ 63
 whole-small (pos m) n f e = let q : m ≡ n = cc in let h = f .sfits in omega arith
@@ -228,9 +224,10 @@ module _ (s : Registers) (w : List ℤ) where
   unfolding Does DoesOn effect
   jump-none w′ h row e = sym (value-none s w _ h)
 
-  pub jump-done : 1 ≤ s .depth → Does Jump s w (jumpingTo (wholeOf (s .top)) (below s w)) w
+  pub jump-done : 1 ≤ s .depth → Does Jump s w (jumpingFrom 0 (wholeOf (s .top)) (below s w)) w
   unfolding Does DoesOn effect
-  jump-done h row e = jump-effect (below s w) w row e (s .top) ∙ rw (below-stack s w) (sym (value-one s w _ h))
+  jump-done h row e =
+      jump-effect (below s w) w row e 0 (s .top) (omega arith) ∙ rw (from-zero (s .top), below-stack s w) (sym (value-one s w _ h))
 
   module _ (z : ℤ) where
     pub bnz-none : (w′ : List ℤ) → s .depth < 1 → Does (Bnz z) s w (ending How.Failed) w′
@@ -254,10 +251,11 @@ module _ (s : Registers) (w : List ℤ) where
         by (pos (suc n)) f = never (cc)
         by (negsuc n) f = never (cc)
 
-    pub bnz-taken : 1 ≤ s .depth → isZero (s .top) ≡ false → Does (Bnz z) s w (branching (wholeOf z) (below s w)) w
+    pub bnz-taken : 1 ≤ s .depth → isZero (s .top) ≡ false → Does (Bnz z) s w (jumpingFrom (s .place) (wholeOf z) (below s w)) w
     unfolding Does DoesOn
     bnz-taken h q row e =
-        bnz-target (pos (s .place) +ℤ z) (branching (wholeOf z) (below s w)) row h (by (s .top) q) (branch-effect (below s w) w row e z)
+        bnz-target (pos (s .place) +ℤ z) (jumpingFrom (s .place) (wholeOf z) (below s w)) row h (by (s .top) q)
+        (jump-effect (below s w) w row e (s .place) z (omega arith))
       where
         by : (a : ℤ) → isZero a ≡ false → branch a (pos (s .place)) z ≡ pos (s .place) +ℤ z
         by (pos zero) f = never (cc)

@@ -104,15 +104,10 @@ combined code a b = choose (eqb code (codeOf Add)) (addWrap a b) (choose (eqb co
 abbrev pub moved : Registers → ℕ → Registers
 moved s place = registers place (s .depth) (s .top)
 
--- a jump: forward, or to −1
-abbrev pub jumpingTo : Whole → Registers → Stepped
-jumpingTo (At n) s = choose (ltb (s .place) n) (going (moved s n)) (ending How.Failed)
-jumpingTo (Below n) s = choose (eqb n 0) (ending How.Denied) (ending How.Failed)
-
--- a branch that is taken: forward, or back to −1
-abbrev pub branching : Whole → Registers → Stepped
-branching (At n) s = choose (ltb 0 n) (going (moved s (s .place + n))) (ending How.Failed)
-branching (Below n) s = choose (eqb n (s .place)) (ending How.Denied) (ending How.Failed)
+-- a jump by a word from a base: forward, or to −1
+abbrev pub jumpingFrom : ℕ → Whole → Registers → Stepped
+jumpingFrom base (At n) s = choose (ltb (s .place) (base + n)) (going (moved s (base + n))) (ending How.Failed)
+jumpingFrom base (Below n) s = choose (eqb n base) (ending How.Denied) (ending How.Failed)
 
 -- ════════════════════════════════════════════════════════════════════════════════════════════
 -- What a handler leaves

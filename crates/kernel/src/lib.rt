@@ -22,7 +22,7 @@ ghost use lib.IntN.{ℤ, pos};
 ghost use lib.ListN.{length};
 ghost use Rattle.handler.specs.Kernel.{orWord, Load, Store, Dup, Swap, Jump, Push, Bnz};
 ghost use Rattle.handler.specs.Space.{known, handleSpace};
-ghost use Rattle.kernel.specs.Words.{wholeOf, Room, below, ending, going, combined, folding, jumpingTo, branching};
+ghost use Rattle.kernel.specs.Words.{wholeOf, Room, below, ending, going, combined, folding, jumpingFrom};
 ghost use Rattle.kernel.specs.Words.{DoesOn, Does, Acts, Held, leftBy, resultOf};
 
 // How a handler ended: by Ret, by the jump to -1, or by leaving its rules.
@@ -251,16 +251,18 @@ fn store(s: Registers, stack: &[i64]) -> Stepped
     }
 }
 
-// A jump goes forward, or to -1.
-fn jump_to(target: i64, s: Registers) -> Stepped
-    ensures { λ r. ⌜ r ≡ jumpingTo (wholeOf target) s ⌝ }
+// A jump by a word from a base, which is 0 for Jump and the place for Bnz: it goes forward, or to -1.
+fn jump_from(base: u64, word: i64, s: Registers) -> Stepped
+    requires { ⌜ base < 2 ^ 63 ⌝ }
+    ensures { λ r. ⌜ r ≡ jumpingFrom base (wholeOf word) s ⌝ }
 {
-    let to = sized(target);
-    match to {
+    let distance = sized(word);
+    match distance {
         Whole::At(n) => {
-            if s.place < n {
+            let place = base + n;
+            if s.place < place {
                 gone(Registers {
-                    place: n,
+                    place,
                     depth: s.depth,
                     top: s.top,
                 })
@@ -269,7 +271,7 @@ fn jump_to(target: i64, s: Registers) -> Stepped
             }
         }
         Whole::Below(n) => {
-            if n == 0 {
+            if n == base {
                 ended(How::Denied)
             } else {
                 ended(How::Failed)
@@ -285,35 +287,7 @@ fn jump(s: Registers, stack: &[i64]) -> Stepped
     if s.depth < 1 {
         return ended(How::Failed);
     }
-    jump_to(s.top, dropped(s, stack))
-}
-
-// A branch that is taken goes forward, or by place + 1 back to -1.
-fn branch(operand: i64, s: Registers) -> Stepped
-    requires { ⌜ s .place < 2 ^ 63 ⌝ }
-    ensures { λ r. ⌜ r ≡ branching (wholeOf operand) s ⌝ }
-{
-    let distance = sized(operand);
-    match distance {
-        Whole::At(n) => {
-            if 0 < n {
-                gone(Registers {
-                    place: s.place + n,
-                    depth: s.depth,
-                    top: s.top,
-                })
-            } else {
-                ended(How::Failed)
-            }
-        }
-        Whole::Below(n) => {
-            if n == s.place {
-                ended(How::Denied)
-            } else {
-                ended(How::Failed)
-            }
-        }
-    }
+    jump_from(0, s.top, dropped(s, stack))
 }
 
 fn bnz(operand: i64, s: Registers, stack: &[i64]) -> Stepped
@@ -331,7 +305,7 @@ fn bnz(operand: i64, s: Registers, stack: &[i64]) -> Stepped
             top: under.top,
         });
     }
-    branch(operand, under)
+    jump_from(under.place, operand, under)
 }
 
 // One instruction, chosen by a tree of tests.

@@ -39,8 +39,8 @@ returns-2 c =
     )
     (bnz-zero (s h) _ _ (h .if1 .left) (zero-is (s h .top) f (at-if2 .if2 .taken)))
 
-branch-requires : tie.Need-branch-requires
-branch-requires c κs =
+jump-from-requires : tie.Need-jump-from-requires
+jump-from-requires c κs =
     let at-dropped = c .before .before .before in
     rw (at-dropped .dropped .ensures) (start (at-dropped .before) .pre .place)
 
@@ -50,7 +50,7 @@ returns-3 c =
     let at-dropped = at-if2 .before .before .before in
     let h = at-dropped .before in
     let f : SFits w64 (s h .top) = record { sfits = omega (arith, at-if2 .before .struct-told .given) } in
-    rw (c .branch .ensures, back {z = start h .args .operand} (start h .fits .operand), at-dropped .dropped .ensures)
+    rw (c .jump-from .ensures, back {z = start h .args .operand} (start h .fits .operand), at-dropped .dropped .ensures)
     (bnz-taken (s h) _ _ (h .if1 .left) (zero-not (s h .top) f (at-if2 .if2 .left)))
 
 pub bnz-spec : {M : Type 1} → statement M
@@ -63,5 +63,5 @@ bnz-spec =
     add-t7
     (λ c κs. search needs)
     returns-2
-    branch-requires
+    jump-from-requires
     returns-3)

@@ -16,7 +16,7 @@ returns-2 c =
     let at-dropped = at-told .before in
     let at-if1 = at-dropped .before in
     let s = at-if1 .before .before .args .s in
-    rw (c .jump-to .ensures, back-ok (s .top) (omega (arith, at-told .struct-told .given)), at-dropped .dropped .ensures)
+    rw (c .jump-from .ensures, back-ok (s .top) (omega (arith, at-told .struct-told .given)), at-dropped .dropped .ensures)
     (jump-done s _ (at-if1 .if1 .left))
 
 pub jump-spec : {M : Type 1} → statement M
