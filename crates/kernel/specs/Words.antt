@@ -18,7 +18,6 @@ use Rattle.kernel.specs.declared.Stepped.{Stepped}
 use Rattle.kernel.specs.declared.Outcome as Ended
 use Rattle.kernel.specs.declared.Outcome.the-variants as End
 use Rattle.kernel.specs.declared.Handled.{Handled}
-use Rattle.kernel.specs.declared.Finished.{Finished}
 use Rattle.handler.specs.Kernel.{Instruction, Add, Sub, Or, Outcome, returned, denied, failed, orWord}
 use Rattle.handler.specs.Kernel.{Effect, ends, goes, effect, effectAt, Kernel, Result}
 use Rattle.handler.specs.Space.{codeOf}
@@ -121,10 +120,6 @@ outcomeOf End.Failed = failed
 -- of the places below a count, those below a limit have both of their words
 unfoldable pub Held : (words count limit : ℕ) → Type 0
 Held words count limit = (place : ℕ) → ltb place limit ≡ (ltb place count && ltb (2 * place + 1) words)
-
--- a run's end and its steps, with the row beside them
-abbrev pub leftBy : Finished → List ℤ → Result
-leftBy r row = record { outcome = outcomeOf (r .outcome); row = row; steps = r .steps }
 
 abbrev pub resultOf : Handled → Result
 resultOf r = record { outcome = outcomeOf (r .outcome); row = r .cache .words; steps = r .steps }

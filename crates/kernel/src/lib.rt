@@ -13,7 +13,6 @@ use handler::code::STORE;
 use handler::code::SUB;
 use handler::code::SWAP;
 use policy::row::Cache;
-use word::memory::put;
 use word::number::Index;
 ghost use mathlib.Core.Path.{_≡_};
 ghost use Prim.Native.Nat.{_≤_, _<_, _^_};
@@ -23,7 +22,7 @@ ghost use lib.ListN.{length};
 ghost use Rattle.handler.specs.Kernel.{orWord, Load, Store, Dup, Swap, Jump, Push, Bnz};
 ghost use Rattle.handler.specs.Space.{known, handleSpace};
 ghost use Rattle.kernel.specs.Words.{wholeOf, Room, below, ending, going, combined, folding, jumpingFrom};
-ghost use Rattle.kernel.specs.Words.{DoesOn, Does, Acts, Held, leftBy, resultOf};
+ghost use Rattle.kernel.specs.Words.{DoesOn, Does, Acts, Held, resultOf};
 
 // How a handler ended: by Ret, by the jump to -1, or by leaving its rules.
 pub enum Outcome {
@@ -37,12 +36,6 @@ pub struct Handled {
     pub outcome: Outcome,
     pub cache: Cache,
     pub steps: u64,
-}
-
-// A run's end and its kernel steps; the rule memory is in its place.
-struct Finished {
-    outcome: Outcome,
-    steps: u64,
 }
 
 // A word as a natural number n, or as -1 - n.
@@ -192,9 +185,9 @@ fn swap(s: Registers, stack: &mut [i64]) -> Stepped
     })
 }
 
-fn load(s: Registers, row: &[i64]) -> Stepped
-    requires { ⌜ (s .place < 2 ^ 63) × (length (now row) ≡ 7) ⌝ }
-    ensures { λ r. ⌜ ((stack : List ℤ) → DoesOn (now (row .entry)) Load s stack r stack) ⌝ }
+fn load(s: Registers, row: Cache) -> Stepped
+    requires { ⌜ s .place < 2 ^ 63 ⌝ }
+    ensures { λ r. ⌜ ((stack : List ℤ) → DoesOn (row .words) Load s stack r stack) ⌝ }
 {
     let depth = s.depth;
     if depth < 1 {
@@ -205,7 +198,7 @@ fn load(s: Registers, row: &[i64]) -> Stepped
         Index::At(i) => gone(Registers {
             place: s.place + 1,
             depth,
-            top: row[i],
+            top: row.get(i),
         }),
         Index::Outside => ended(How::Failed),
     }
@@ -309,9 +302,9 @@ fn bnz(operand: i64, s: Registers, stack: &[i64]) -> Stepped
 }
 
 // One instruction, chosen by a tree of tests.
-fn choose(code: u64, operand: i64, s: Registers, stack: &mut [i64], row: &[i64]) -> Stepped
-    requires { ⌜ Room s (now stack) × (length (now row) ≡ 7) ⌝ }
-    ensures { λ r. ⌜ Acts (now (row .entry)) (known (pos code) operand) s (now (stack .entry)) r (now (stack .exit)) ⌝ }
+fn choose(code: u64, operand: i64, s: Registers, stack: &mut [i64], row: Cache) -> Stepped
+    requires { ⌜ Room s (now stack) ⌝ }
+    ensures { λ r. ⌜ Acts (row .words) (known (pos code) operand) s (now (stack .entry)) r (now (stack .exit)) ⌝ }
 {
     if code < STORE {
         if code <= SUB {
@@ -356,9 +349,9 @@ fn choose(code: u64, operand: i64, s: Registers, stack: &mut [i64], row: &[i64])
 }
 
 // The instruction that two words stand for.
-fn act(code: i64, operand: i64, s: Registers, stack: &mut [i64], row: &[i64]) -> Stepped
-    requires { ⌜ Room s (now stack) × (length (now row) ≡ 7) ⌝ }
-    ensures { λ r. ⌜ Acts (now (row .entry)) (known code operand) s (now (stack .entry)) r (now (stack .exit)) ⌝ }
+fn act(code: i64, operand: i64, s: Registers, stack: &mut [i64], row: Cache) -> Stepped
+    requires { ⌜ Room s (now stack) ⌝ }
+    ensures { λ r. ⌜ Acts (row .words) (known code operand) s (now (stack .entry)) r (now (stack .exit)) ⌝ }
 {
     choose(word::wrap::to_bits(code), operand, s, stack, row)
 }
@@ -375,11 +368,11 @@ fn held(words: usize, count: usize) -> u64
     }
 }
 
-// Runs the handler on a stack of 64 words, which is empty, over the seven words of the rule memory, whatever the words. Every instruction
-// goes forward, so that the place alone bounds the run.
-fn go(space: &[i64], count: usize, stack: &mut [i64], row: &mut [i64]) -> Finished
-    requires { ⌜ (length (now stack) ≡ 64) × (length (now row) ≡ 7) ⌝ }
-    ensures { λ r. ⌜ leftBy r (now (row .exit)) ≡ handleSpace (now (space .entry)) count (now (row .entry)) ⌝ }
+// Runs the handler on a stack of 64 words, which is empty, over the rule memory, whatever the words. Every instruction goes forward, so
+// that the place alone bounds the run. The word is changed in its place: by `set` all seven would be copied, at each Load too.
+fn go(space: &[i64], count: usize, stack: &mut [i64], cache: Cache) -> Handled
+    requires { ⌜ length (now stack) ≡ 64 ⌝ }
+    ensures { λ r. ⌜ resultOf r ≡ handleSpace (now (space .entry)) count (cache .words) ⌝ }
 {
     let limit = held(space.len(), count);
     let mut at = Registers {
@@ -387,6 +380,7 @@ fn go(space: &[i64], count: usize, stack: &mut [i64], row: &mut [i64]) -> Finish
         depth: 0,
         top: 0,
     };
+    let mut row = cache;
     let mut steps: u64 = 0;
     while at.place < limit {
         let i = at.place as usize;
@@ -394,27 +388,35 @@ fn go(space: &[i64], count: usize, stack: &mut [i64], row: &mut [i64]) -> Finish
         let how = r.how;
         match how {
             How::Goes => {
-                put(row, r.address, r.word);
+                let address = r.address;
+                let word = r.word;
+                if address < 7 {
+                    row.words[address] = word;
+                }
                 let next = r.at;
                 at = next;
                 steps += 1;
             }
-            How::Returned => return Finished {
+            How::Returned => return Handled {
                 outcome: Outcome::Returned,
+                cache: row,
                 steps: steps + 1,
             },
-            How::Denied => return Finished {
+            How::Denied => return Handled {
                 outcome: Outcome::Denied,
+                cache: row,
                 steps: steps + 1,
             },
-            How::Failed => return Finished {
+            How::Failed => return Handled {
                 outcome: Outcome::Failed,
+                cache: row,
                 steps,
             },
         }
     }
-    Finished {
+    Handled {
         outcome: Outcome::Failed,
+        cache: row,
         steps,
     }
 }
@@ -424,13 +426,5 @@ pub fn handle(space: &[i64], count: usize, cache: Cache) -> Handled
     ensures { λ r. ⌜ resultOf r ≡ handleSpace (now (space .entry)) count (cache .words) ⌝ }
 {
     let mut stack = [0i64; 64];
-    let mut row = cache.words;
-    let r = go(space, count, &mut stack, &mut row);
-    let outcome = r.outcome;
-    let steps = r.steps;
-    Handled {
-        outcome,
-        cache: Cache { words: row },
-        steps,
-    }
+    go(space, count, &mut stack, cache)
 }

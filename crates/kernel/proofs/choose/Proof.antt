@@ -15,6 +15,10 @@ use borrow.Author.Needs.{needs}
 use Rattle.kernel.proofs.choose.Statement.{statement}
 use Rattle.kernel.proofs.choose.Tie as tie
 
+-- the rule memory has seven words
+seven : (start : tie.Start) → length (start .args .row .words) ≡ 7
+seven start = search needs
+
 returns : tie.Need-returns
 unfolding known
 returns c =
@@ -30,8 +34,7 @@ returns-2 c =
     let at-if2 = at-if3 .before in
     let start = at-if2 .before .before in
     let n = start .args .operand in
-    let l : length (now (start .args .row)) ≡ 7 = start .pre .1 in
-    acts _ _ _ _ _ _ _ l (fold-known (start .args .code) n (at-if3 .if3 .left) (at-if2 .if2 .taken)) (c .fold .ensures)
+    acts _ _ _ _ _ _ _ (seven start) (fold-known (start .args .code) n (at-if3 .if3 .left) (at-if2 .if2 .taken)) (c .fold .ensures)
 
 returns-3 : tie.Need-returns-3
 unfolding known
@@ -39,8 +42,7 @@ returns-3 c =
     let at-if4 = c .before .before .before in
     let start = at-if4 .before .before .before in
     let n = start .args .operand in
-    let l : length (now (start .args .row)) ≡ 7 = start .pre .1 in
-    acts _ _ _ _ _ _ (Push n) l (ap (λ (k : ℕ). known (pos k) n) (at-if4 .if4 .taken))
+    acts _ _ _ _ _ _ (Push n) (seven start) (ap (λ (k : ℕ). known (pos k) n) (at-if4 .if4 .taken))
     (rw (back {z = n} (start .fits .operand)) at (c .before .push .ensures))
 
 returns-4 : tie.Need-returns-4
@@ -70,8 +72,7 @@ returns-6 c =
     let at-if7 = c .before .before in
     let start = at-if7 .before .before .before in
     let n = start .args .operand in
-    let l : length (now (start .args .row)) ≡ 7 = start .pre .1 in
-    acts _ _ _ _ _ _ Store l (ap (λ (k : ℕ). known (pos k) n) (at-if7 .if7 .taken)) (c .store .ensures)
+    acts _ _ _ _ _ _ Store (seven start) (ap (λ (k : ℕ). known (pos k) n) (at-if7 .if7 .taken)) (c .store .ensures)
 
 returns-7 : tie.Need-returns-7
 unfolding known
@@ -79,8 +80,7 @@ returns-7 c =
     let at-if8 = c .before .before in
     let start = at-if8 .before .before .before .before in
     let n = start .args .operand in
-    let l : length (now (start .args .row)) ≡ 7 = start .pre .1 in
-    acts _ _ _ _ _ _ Jump l (ap (λ (k : ℕ). known (pos k) n) (at-if8 .if8 .taken)) (c .jump .ensures)
+    acts _ _ _ _ _ _ Jump (seven start) (ap (λ (k : ℕ). known (pos k) n) (at-if8 .if8 .taken)) (c .jump .ensures)
 
 returns-8 : tie.Need-returns-8
 unfolding known
@@ -91,7 +91,6 @@ returns-8 c =
     let at-if1 = at-if6 .before in
     let start = at-if1 .before in
     let n = start .args .operand in
-    let l : length (now (start .args .row)) ≡ 7 = start .pre .1 in
     let e : start .args .code ≡ codeOf (Bnz n) = omega (
       arith,
       at-if1 .if1 .left,
@@ -99,7 +98,8 @@ returns-8 c =
       at-if7 .if7 .left,
       at-if8 .if8 .left,
     ) in
-    acts _ _ _ _ _ _ (Bnz n) l (ap (λ (k : ℕ). known (pos k) n) e) (rw (back {z = n} (start .fits .operand)) at (c .bnz .ensures))
+    acts _ _ _ _ _ _ (Bnz n) (seven start) (ap (λ (k : ℕ). known (pos k) n) e)
+    (rw (back {z = n} (start .fits .operand)) at (c .bnz .ensures))
 
 returns-9 : tie.Need-returns-9
 unfolding known
@@ -126,8 +126,7 @@ returns-11 c =
     let at-if11 = c .before .before in
     let start = at-if11 .before .before .before .before in
     let n = start .args .operand in
-    let l : length (now (start .args .row)) ≡ 7 = start .pre .1 in
-    acts _ _ _ _ _ _ _ l (or-known (start .args .code) n (at-if11 .if11 .taken)) (c .fold2 .ensures)
+    acts _ _ _ _ _ _ _ (seven start) (or-known (start .args .code) n (at-if11 .if11 .taken)) (c .fold2 .ensures)
 
 returns-12 : tie.Need-returns-12
 unfolding known
@@ -135,8 +134,7 @@ returns-12 c =
     let at-if12 = c .before .before .before in
     let start = at-if12 .before .before .before .before .before in
     let n = start .args .operand in
-    let l : length (now (start .args .row)) ≡ 7 = start .pre .1 in
-    acts _ _ _ _ _ _ Dup l (ap (λ (k : ℕ). known (pos k) n) (at-if12 .if12 .taken)) (c .before .dup .ensures)
+    acts _ _ _ _ _ _ Dup (seven start) (ap (λ (k : ℕ). known (pos k) n) (at-if12 .if12 .taken)) (c .before .dup .ensures)
 
 returns-13 : tie.Need-returns-13
 unfolding known
@@ -144,8 +142,7 @@ returns-13 c =
     let at-if13 = c .before .before .before in
     let start = at-if13 .before .before .before .before .before .before in
     let n = start .args .operand in
-    let l : length (now (start .args .row)) ≡ 7 = start .pre .1 in
-    acts _ _ _ _ _ _ Swap l (ap (λ (k : ℕ). known (pos k) n) (at-if13 .if13 .taken)) (c .before .swap .ensures)
+    acts _ _ _ _ _ _ Swap (seven start) (ap (λ (k : ℕ). known (pos k) n) (at-if13 .if13 .taken)) (c .before .swap .ensures)
 
 returns-14 : tie.Need-returns-14
 unfolding known

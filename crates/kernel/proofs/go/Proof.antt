@@ -1,9 +1,12 @@
 -- `kernel::go` meets its contract. The loop's invariant: what is left to run, from where it stands, equals the whole run.
 -- The measure is what is left of the places. Assumes nothing.
-use mathlib.Core.Path.{_≡_, sym, _∙_}
+use mathlib.Core.Path.{_≡_, sym, ap, _∙_}
+use mathlib.Core.Logic.{⊎-elim}
 use Prim.Native.Nat.{_+_, _-_, _*_, _^_, _<_}
 use native.Mathlib.Omega.{arith}
-use lib.ListN.{length}
+use lib.ListN.{length, set}
+use lib.Seq.{set-out}
+use Rattle.policy.specs.declared.row.Cache.{Cache}
 use denote.Ref.{now}
 use borrow.Author.Needs.{needs}
 use Rattle.word.proofs.Signed.{back-ok}
@@ -15,10 +18,14 @@ use Rattle.kernel.proofs.go.Statement.{statement}
 use Rattle.kernel.proofs.go.Tie as tie
 
 abbrev Inv-loop : tie.InvT-loop
-Inv-loop space count stack₀ row₀ limit at₀ steps₀ stack row at steps = Going count space row₀ at stack row steps
+Inv-loop space count stack₀ limit at₀ row₀ steps₀ stack at row steps = Going count space (row₀ .words) at stack (row .words) steps
 
 abbrev μ-loop : tie.MeasureT-loop
-μ-loop space count stack₀ row₀ limit at₀ steps₀ stack row at steps = limit - at .place
+μ-loop space count stack₀ limit at₀ row₀ steps₀ stack at row steps = limit - at .place
+
+-- the rule memory has seven words
+seven : (start : tie.Start Inv-loop μ-loop) → length (start .args .cache .words) ≡ 7
+seven start = search needs
 
 -- an instruction is at the place
 module _ (t : tie.Then1 Inv-loop μ-loop) where
@@ -46,22 +53,34 @@ module _ (t : tie.Then1 Inv-loop μ-loop) where
 -- it was carried out
 module _ (a : tie.After-act Inv-loop μ-loop) where
   abbrev test : tie.Then1 Inv-loop μ-loop
-  test = a .before .before .before .before .before
+  test = a .before .before .before .before
 
-  acted : Acts (head test .loop .row) (instructionAt (now (begin test .args .space)) (head test .loop .at .place)) (head test .loop .at)
-      (head test .loop .stack) (a .act .result) (a .act .last .1 .1 .1 .0)
+  acted : Acts (head test .loop .row .words) (instructionAt (now (begin test .args .space)) (head test .loop .at .place))
+      (head test .loop .at) (head test .loop .stack) (a .act .result) (a .act .last .1 .1 .1 .0)
   acted =
-      let arg2 = a .before .before .before in
+      let arg2 = a .before .before in
       rw (back-ok _ (arg2 .before .act-arg .given), back-ok _ (arg2 .act-arg2 .given)) at (a .act .ensures)
 
   stack-kept : length (a .act .last .1 .1 .1 .0) ≡ length (now (begin test .args .stack))
-  stack-kept = a .act .kept .1 .1 .1 .0 ∙ head test .loop .inv .size ∙ sym (begin test .pre .0)
+  stack-kept = a .act .kept .1 .1 .1 .0 ∙ head test .loop .inv .size ∙ sym (begin test .pre)
 
-  row-kept : length (head test .loop .row) ≡ length (now (begin test .args .row))
-  row-kept = head test .loop .inv .words ∙ sym (begin test .pre .1)
+-- the word at the address is changed, and none where there is none
+module _ (j : tie.Joined2 Inv-loop μ-loop) where
+  abbrev done : tie.After-act Inv-loop μ-loop
+  done = j .before .before .before .before .before
+
+  changed : j .if2 .row .words ≡ set (head (test done) .loop .row .words) (done .act .result .address) (done .act .result .word)
+  changed =
+      let r = done .act .result in
+      let l = head (test done) .loop in
+      ⊎-elim
+      (λ w. ap (λ (x : Cache). x .words) (w .1) ∙ ap (set (l .row .words) (r .address)) (back-ok (r .word) (omega (arith, done .act .ok))))
+      (λ w. ap (λ (x : Cache). x .words) (w .1)
+      ∙ sym (set-out (l .row .words) (r .address) (r .word) (omega (arith, w .0 .left, l .inv .words))))
+      (j .if2 .came)
 
 loop-holds : tie.Need-loop-holds Inv-loop μ-loop
-loop-holds c = going-start _ _ _ _ (c .before .pre .0) (c .before .pre .1)
+loop-holds c = going-start _ _ _ _ (c .before .pre) (seven (c .before))
 
 mul-act : tie.Need-mul-act Inv-loop μ-loop
 mul-act c = record { fits = omega (arith, near c) }
@@ -86,18 +105,18 @@ shared-slice-copy-out-act-2 c = held-at (c .before)
 
 act-requires : tie.Need-act-requires Inv-loop μ-loop
 act-requires c κs =
-    let t = c .before .before .before .before in
+    let t = c .before .before .before in
     let g = head t .loop .inv in
-    (record { place = omega (arith, near t); depth = g .deep; size = g .size }, g .words)
+    record { place = omega (arith, near t); depth = g .deep; size = g .size }
 
 add-steps : tie.Need-add-steps Inv-loop μ-loop
 add-steps c =
-    let at-act = c .before .before .before .before .before .before .before .before in
+    let at-act = c .before .before .before .before .before .before in
     record { fits = omega (arith, counted (test at-act)) }
 
 loop-less : tie.Need-loop-less Inv-loop μ-loop
 loop-less c =
-    let told = c .before .before .before .before .before in
+    let told = c .before .before .before in
     let a = told .before .before .before in
     let f = going-forward _ _ _ _ (limited (test a)) _ _ _ _ (head (test a) .loop .inv) (test a .if1 .taken) _ _ (acted a)
     (told .enum-told .given .1) in
@@ -105,20 +124,17 @@ loop-less c =
 
 loop-again : tie.Need-loop-again Inv-loop μ-loop
 loop-again c =
-    let told = c .before .before .before .before .before in
+    let told = c .before .before .before in
     let a = told .before .before .before in
-    rw (c .before .before .put .ensures, back-ok (a .act .result .word) (omega (arith, a .act .ok)))
+    rw (changed (c .before))
     (going-on _ _ _ _ (limited (test a)) _ _ _ _ (head (test a) .loop .inv) (test a .if1 .taken) _ _ (acted a) (told .enum-told .given .1)
     (a .act .kept .1 .1 .1 .0))
 
-add-t31 : tie.Need-add-t31 Inv-loop μ-loop
-add-t31 c = record { fits = omega (arith, counted (test (c .before .before .before))) }
+add-t35 : tie.Need-add-t35 Inv-loop μ-loop
+add-t35 c = record { fits = omega (arith, counted (test (c .before .before .before))) }
 
 same-length : tie.Need-same-length Inv-loop μ-loop
 same-length c = stack-kept (c .before .before .before)
-
-same-length-2 : tie.Need-same-length-2 Inv-loop μ-loop
-same-length-2 c = row-kept (c .before .before .before)
 
 returns : tie.Need-returns Inv-loop μ-loop
 returns c =
@@ -126,14 +142,11 @@ returns c =
     going-returned _ _ _ _ (limited (test a)) _ _ _ _ (head (test a) .loop .inv) (test a .if1 .taken) _ _ (acted a)
     (c .enum-told2 .given .1)
 
-add-t33 : tie.Need-add-t33 Inv-loop μ-loop
-add-t33 c = record { fits = omega (arith, counted (test (c .before .before .before))) }
+add-t38 : tie.Need-add-t38 Inv-loop μ-loop
+add-t38 c = record { fits = omega (arith, counted (test (c .before .before .before))) }
 
-same-length-3 : tie.Need-same-length-3 Inv-loop μ-loop
-same-length-3 c = stack-kept (c .before .before .before)
-
-same-length-4 : tie.Need-same-length-4 Inv-loop μ-loop
-same-length-4 c = row-kept (c .before .before .before)
+same-length-2 : tie.Need-same-length-2 Inv-loop μ-loop
+same-length-2 c = stack-kept (c .before .before .before)
 
 returns-2 : tie.Need-returns-2 Inv-loop μ-loop
 returns-2 c =
@@ -141,11 +154,8 @@ returns-2 c =
     going-denied _ _ _ _ (limited (test a)) _ _ _ _ (head (test a) .loop .inv) (test a .if1 .taken) _ _ (acted a)
     (c .enum-told3 .given .1)
 
-same-length-5 : tie.Need-same-length-5 Inv-loop μ-loop
-same-length-5 c = stack-kept (c .before .before .before)
-
-same-length-6 : tie.Need-same-length-6 Inv-loop μ-loop
-same-length-6 c = row-kept (c .before .before .before)
+same-length-3 : tie.Need-same-length-3 Inv-loop μ-loop
+same-length-3 c = stack-kept (c .before .before .before)
 
 returns-3 : tie.Need-returns-3 Inv-loop μ-loop
 returns-3 c =
@@ -153,11 +163,8 @@ returns-3 c =
     going-failed _ _ _ _ (limited (test a)) _ _ _ _ (head (test a) .loop .inv) (test a .if1 .taken) _ _ (acted a)
     (c .enum-told4 .given .1)
 
-same-length-7 : tie.Need-same-length-7 Inv-loop μ-loop
-same-length-7 c = c .before .before .loop .inv .size ∙ sym (c .before .before .before .before .pre .0)
-
-same-length-8 : tie.Need-same-length-8 Inv-loop μ-loop
-same-length-8 c = c .before .before .loop .inv .words ∙ sym (c .before .before .before .before .pre .1)
+same-length-4 : tie.Need-same-length-4 Inv-loop μ-loop
+same-length-4 c = c .before .before .loop .inv .size ∙ sym (c .before .before .before .before .pre)
 
 returns-4 : tie.Need-returns-4 Inv-loop μ-loop
 returns-4 c =
@@ -181,24 +188,21 @@ go-spec =
     shared-slice-copy-out-act-2
     act-requires
     (λ c. search needs)
-    (λ c κs. search needs)
+    (λ c. search needs)
+    (λ c. search needs)
     add-steps
     loop-less
     loop-again
     (λ c. search needs)
-    add-t31
+    add-t35
     same-length
-    same-length-2
     returns
     (λ c. search needs)
-    add-t33
-    same-length-3
-    same-length-4
+    add-t38
+    same-length-2
     returns-2
     (λ c. search needs)
-    same-length-5
-    same-length-6
+    same-length-3
     returns-3
-    same-length-7
-    same-length-8
+    same-length-4
     returns-4)
