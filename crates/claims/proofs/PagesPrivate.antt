@@ -18,12 +18,12 @@ use Rattle.engine.specs.Layout.{cellsOf}
 use Rattle.engine.specs.Ended.{Ended, ended}
 use Rattle.tagging.specs.Consult.{Tag}
 use Rattle.tagged.specs.Tagged.{Left, left}
-use Rattle.report.specs.Job.{Heard, Ending, sheet, readJob}
+use Rattle.report.specs.Job.{Heard, Ending, sheet, readJob, sheetFrom, sheetOf}
 use Rattle.report.specs.Job as Job
 use Rattle.report.specs.Lines.{lineText, linesText}
 use Rattle.report.specs.Page.{zeros, lentFor, endFor, answerText, endedText, runText, readingText, pageOf}
 use Rattle.claims.specs.Privacy.{Ran, onTagged, linesIn}
-use Rattle.claims.specs.Pages.{readerOf, cellWordsOf, cellsGiven, sheetFrom, sheetOf, answered, fateFrom, fateOf, Claim, Says, Unrun}
+use Rattle.claims.specs.Pages.{readerOf, cellWordsOf, cellsGiven, answered, fateFrom, fateOf, Claim, Says, Unrun}
 use Rattle.claims.specs.Pages as Pages
 use Rattle.claims.proofs.Private.{runs-private}
 use Rattle.claims.proofs.Starts.{texts, texts-starts}

@@ -18,11 +18,11 @@ use Rattle.engine.specs.Start.{labelsLimit, startDecoded, startOf}
 use Rattle.policy.specs.Read.{readTable}
 use Rattle.policy.specs.Standard.{standardBytes}
 use Rattle.tagged.specs.Tagged.{startTagged, taggedOf, tagged}
-use Rattle.report.specs.Job.{Heard, Ending, bad, sheet, readJob}
+use Rattle.report.specs.Job.{Heard, Ending, bad, sheet, readJob, sheetFrom, sheetOf}
 use Rattle.report.specs.Lines.{jobText, refusedText}
 use Rattle.report.specs.Page.{zeros, lentFor, endFor, pageOf}
 use Rattle.report.proofs.Paging.{Few, few}
-use Rattle.claims.specs.Pages.{cellWordsOf, sheetFrom, sheetOf, allowanceOf, Fate, answered, fateFrom, fateOf, Says, Read, Bytes}
+use Rattle.claims.specs.Pages.{cellWordsOf, allowanceOf, Fate, answered, fateFrom, fateOf, Says, Read, Bytes}
 use Rattle.claims.specs.Pages.{Refusals, Whole}
 use Rattle.claims.specs.Pages as Pages
 use Rattle.claims.proofs.PagesPrivate.{pages-private, pages-unrun}

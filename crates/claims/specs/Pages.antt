@@ -1,7 +1,7 @@
 -- Demand 3 for pages: what the page of a job tells its reader. This file states it; proofs/PagesPrivate.antt and PagesRefused.antt show it.
 use Prim.Native.Nat.{ℕ, _<_}
 use mathlib.Core.Path.{_≡_}
-use mathlib.Core.List.{List, []}
+use mathlib.Core.List.{List}
 use lib.ListN.{drop, getD}
 use Rattle.machine.specs.Atom.{Atom}
 use Rattle.machine.specs.Claim.{Alike, OneStartsOther}
@@ -9,7 +9,7 @@ use Rattle.step.specs.Lent.{Cells, cells}
 use Rattle.engine.specs.declared.Answer.{Answer}
 use Rattle.engine.specs.declared.Answer.the-variants as Answer
 use Rattle.engine.specs.Layout.{cellsOf}
-use Rattle.report.specs.Job.{Heard, Ending, sheet, readJob}
+use Rattle.report.specs.Job.{Heard, Ending, sheet, readJob, sheetOf}
 use Rattle.report.specs.Job as Job
 use Rattle.report.specs.Lines.{jobText, refusedText}
 use Rattle.report.specs.Page.{endFor, pageOf}
@@ -27,14 +27,6 @@ cellWordsOf h = cells (h .values) (h .labels)
 
 abbrev pub cellsGiven : List ℕ → List Atom
 cellsGiven job = cellsOf (cellWordsOf (readJob job .heard))
-
--- the rest after 43; a bad job has no sheet
-abbrev pub sheetFrom : List ℕ → Ending → List ℕ
-sheetFrom job (Job.bad offset) = []
-sheetFrom job (sheet start) = drop start job
-
-abbrev pub sheetOf : List ℕ → List ℕ
-sheetOf job = sheetFrom job (readJob job .ending)
 
 -- bad at an offset; refused with a number and a place; or its sheet is run
 pub data Fate : Type 0 where

@@ -2,7 +2,7 @@
 -- Assumes nothing.
 use mathlib.Core.Path.{_≡_, refl, sym, ap, subst, _∙_}
 use mathlib.Core.Bool.{Bool, true, false}
-use mathlib.Core.List.{List}
+use mathlib.Core.List.{List, []}
 use Prim.Native.Nat.{ℕ, zero, suc, _+_, _<_, _≤_}
 use native.Mathlib.Nat.{zero-add}
 use native.Mathlib.Omega.{arith}
@@ -23,7 +23,7 @@ use Rattle.report.specs.declared.job.Said.{Said}
 use Rattle.report.specs.declared.Outcome.{Outcome}
 use Rattle.report.specs.declared.Outcome.the-variants as Outcome
 use Rattle.report.specs.Job.{Heard, silence, withCell, withAllowance, withReader, Ending, bad, sheet, Reading, reading}
-use Rattle.report.specs.Job.{itemAt, follow, readFrom, readJob, answerOf, jobAnswer, fitted}
+use Rattle.report.specs.Job.{itemAt, follow, readFrom, readJob, sheetFrom, sheetOf, answerOf, jobAnswer, fitted}
 use Rattle.report.specs.Lines.{jobText}
 use Rattle.report.specs.Written.{Written}
 use Rattle.report.specs.Page.{zeros, endFor, answerText, endedText, runText, readingText, pageOf, pageLimit, pageAnswer, pageOut}
@@ -92,6 +92,22 @@ module _ (c : Cells) (allowance reader : ℕ) (bytes : List ℕ) (l : Left) (d :
 -- The job's reading
 -- ════════════════════════════════════════════════════════════════════════════════════════════
 
+-- the sheet is the rest from the offset that the reader says, and a bad job has none
+module _ (job : List ℕ) where
+  pub sheet-read : (said : Said) → Job.Read said ≡ jobAnswer (readJob job) → drop (said .sheet) job ≡ sheetOf job
+  sheet-read said e = by (readJob job .ending) e
+    where
+      by : (x : Ending) → Job.Read said ≡ answerOf (readJob job .heard) x → drop (said .sheet) job ≡ sheetFrom job x
+      by (bad k) e = never (cc)
+      by (sheet k) e = let same : said .sheet ≡ k = cc in ap (λ (k : ℕ). drop k job) same
+
+  pub sheet-bad : (offset : ℕ) → Job.Bad offset ≡ jobAnswer (readJob job) → [] ≡ sheetOf job
+  sheet-bad offset e = by (readJob job .ending) e
+    where
+      by : (x : Ending) → Job.Bad offset ≡ answerOf (readJob job .heard) x → [] ≡ sheetFrom job x
+      by (bad k) e = refl
+      by (sheet k) e = never (cc)
+
 module _ (job old : List ℕ) (n : ℕ) (new : List ℕ) where
   pub page-bad : (offset : ℕ) → Job.Bad offset ≡ jobAnswer (readJob job) → Written (jobText offset) old 0 n new
       → Written (pageOf job) old 0 n new
@@ -115,8 +131,8 @@ module _ (job old : List ℕ) (n : ℕ) (new : List ℕ) where
         (d, omega (arith, few job .values))
 
     -- the text of what was said, on cells
-    abbrev saidText : Said → (values labels : List ℤ) → List ℕ
-    saidText x values labels = runText (cells values labels) (x .allowance) (x .reader .0) (drop (x .sheet) job)
+    abbrev saidText : Said → (values labels : List ℤ) → List ℕ → List ℕ
+    saidText x values labels bytes = runText (cells values labels) (x .allowance) (x .reader .0) bytes
 
     pub cells-few : said .cells ≤ 1024
     cells-few = heard (readJob job .ending) e .1
@@ -139,13 +155,13 @@ module _ (job old : List ℕ) (n : ℕ) (new : List ℕ) where
           (fitted-take (readJob job .heard .labels) (zeros 1024)
           (omega (arith, few job .values, few job .labels, length-replicate 1024 (pos 0))))
 
-      pub page-read : Written (saidText said (take (said .cells) values) (take (said .cells) labels)) old 0 n new
+      pub page-read : Written (saidText said (take (said .cells) values) (take (said .cells) labels) (sheetOf job)) old 0 n new
           → Written (pageOf job) old 0 n new
       unfolding pageOf
       page-read w = by (readJob job .ending) e (rw (values-are, labels-are) at w)
         where
           by : (x : Ending) → Job.Read said ≡ answerOf (readJob job .heard) x
-              → Written (saidText said (readJob job .heard .values) (readJob job .heard .labels)) old 0 n new
+              → Written (saidText said (readJob job .heard .values) (readJob job .heard .labels) (sheetFrom job x)) old 0 n new
               → Written (readingText job (readJob job .heard) x) old 0 n new
           by (bad k) e w = never (cc)
           by (sheet k) e w =
@@ -157,7 +173,7 @@ module _ (job old : List ℕ) (n : ℕ) (new : List ℕ) where
                 sheet =
                     k;
               } = cc in
-              subst (λ (x : Said). Written (saidText x (h .values) (h .labels)) old 0 n new) same w
+              subst (λ (x : Said). Written (saidText x (h .values) (h .labels) (drop k job)) old 0 n new) same w
 
 -- ════════════════════════════════════════════════════════════════════════════════════════════
 -- The space for the page

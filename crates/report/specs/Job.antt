@@ -2,7 +2,7 @@
 use Prim.Native.Nat.{ℕ, zero, suc, _+_}
 use mathlib.Core.List.{List, [], _∷_, _++_}
 use lib.IntN.{ℤ, pos, natAbs}
-use lib.ListN.{length, getD}
+use lib.ListN.{length, drop, getD}
 use lib.Dec.{ltb, leb, eqb}
 use Rattle.word.specs.declared.field.Field.{Field}
 use Rattle.word.specs.declared.field.Field.the-variants as Field
@@ -112,6 +112,14 @@ readFrom (suc n) s at h =
 -- the length is tested first; a job of n bytes has at most n commands
 unfoldable pub readJob : List ℕ → Reading
 readJob s = choose (leb (length s) 65536) (readFrom (length s) s 0 silence) (reading silence (bad 65536))
+
+-- the sheet is the rest after 43; a bad job has none
+abbrev pub sheetFrom : List ℕ → Ending → List ℕ
+sheetFrom job (bad offset) = []
+sheetFrom job (sheet start) = drop start job
+
+abbrev pub sheetOf : List ℕ → List ℕ
+sheetOf job = sheetFrom job (readJob job .ending)
 
 -- ════════════════════════════════════════════════════════════════════════════════════════════
 -- What the job reader answers, and what it leaves in the runs that it is lent for the cells

@@ -6,12 +6,12 @@ ghost use Prim.Native.Nat.{_<_};
 ghost use lib.ListN.{length, drop};
 ghost use Rattle.report.specs.Job as Jobs;
 
-// What a job says: how many cells it has, its allowance and reader's set, and the offset after byte 43.
+// What a job says: how many cells it has, its allowance and reader's set; and, for this module alone, the offset after byte 43.
 pub struct Said {
     pub cells: usize,
     pub allowance: u64,
     pub reader: Label,
-    pub sheet: usize,
+    sheet: usize,
 }
 
 // The answer to a job: what it says, or the offset at which it is bad.
@@ -143,12 +143,28 @@ pub fn read(job: &[u8], values: &mut [i64], labels: &mut [i64]) -> Job
     Job::Bad(job.len())
 }
 
-// The sheet: the job's own bytes from an offset on, none where it lies beyond the end.
-pub fn sheet(job: &[u8], start: usize) -> &[u8]
+// The job's own bytes from an offset on, none where it lies beyond the end.
+fn rest(job: &[u8], start: usize) -> &[u8]
     ensures { λ r. ⌜ now r ≡ drop start (now (job .entry)) ⌝ }
 {
     if start <= job.len() {
         return &job[start..];
     }
     &job[..0]
+}
+
+// The sheet: the job's own bytes after byte 43 to the end; a bad job has none. The reader is lent no room for cells here.
+pub fn sheet(job: &[u8]) -> &[u8]
+    ensures { λ r. ⌜ now r ≡ Jobs.sheetOf (now (job .entry)) ⌝ }
+{
+    let mut values = [0i64; 0];
+    let mut labels = [0i64; 0];
+    let answer = read(job, &mut values, &mut labels);
+    match answer {
+        Job::Read(said) => {
+            let start = said.sheet;
+            rest(job, start)
+        }
+        Job::Bad(_) => &job[..0],
+    }
 }

@@ -9,8 +9,9 @@ use label::Label;
 use policy::row::Cache;
 ghost use mathlib.Core.Path.{_≡_};
 ghost use Prim.Native.Nat.{_≤_};
-ghost use lib.ListN.{length, take, drop};
+ghost use lib.ListN.{length, take};
 ghost use Rattle.step.specs.Lent.{cells};
+ghost use Rattle.report.specs.Job.{sheetOf};
 ghost use Rattle.report.specs.Written.{Written};
 ghost use Rattle.report.specs.Page.{runText, pageOf, pageLimit, pageAnswer, pageOut};
 
@@ -66,18 +67,17 @@ fn run(
     }
 }
 
-// The cells are the first words of the two runs, and the sheet is the rest of the job.
+// The cells are the first words of the two runs, and the sheet is the job's.
 fn on_cells(job: &[u8], said: Said, values: &mut [i64], labels: &mut [i64], out: &mut [u8]) -> usize
     requires { ⌜ (said .cells ≤ length (now values)) × (said .cells ≤ length (now labels)) × (pageLimit ≤ length (now out)) ⌝ }
     ensures { λ r. ⌜ Written (runText (cells (take (said .cells) (now (values .entry))) (take (said .cells) (now (labels .entry))))
-        (said .allowance) (said .reader .0) (drop (said .sheet) (now (job .entry)))) (now (out .entry)) 0 r (now (out .exit)) ⌝ }
+        (said .allowance) (said .reader .0) (sheetOf (now (job .entry)))) (now (out .entry)) 0 r (now (out .exit)) ⌝ }
 {
     let count = said.cells;
-    let start = said.sheet;
     let allowance = said.allowance;
     let reader = said.reader;
     run(
-        job::sheet(job, start),
+        job::sheet(job),
         &mut values[..count],
         &mut labels[..count],
         allowance,

@@ -1,23 +1,26 @@
--- `report::job::sheet` meets its contract: the part of the job's bytes from the offset on.
+-- `report::job::sheet` meets its contract: the rest from the offset that the reader says, and nothing of a bad job.
 -- Assumes nothing.
-use mathlib.Core.Path.{sym}
-use native.Mathlib.Omega.{arith}
+use mathlib.Core.Path.{_∙_, sym}
 use denote.Ref.{now}
-use Prim.Native.Nat.{_-_}
-use lib.ListN.{length, drop, length-drop, drop-of-length-le}
-use lib.Seq.{take-all}
 use borrow.Author.Needs.{needs}
+use Rattle.report.proofs.Paging.{sheet-read, sheet-bad}
 use Rattle.report.proofs.job.sheet.Statement.{statement}
 use Rattle.report.proofs.job.sheet.Tie as tie
 
 returns : tie.Need-returns
 returns c =
-    let a = c .before .before .args in
-    take-all (length (now (a .job)) - a .start) (drop (a .start) (now (a .job))) (simp length-drop (omega arith))
+    let said = c .before .before in
+    let read = said .before .before .before .before in
+    let a = read .before .before .before .before .args in
+    c .rest .ensures
+    ∙ sheet-read (now (a .job)) (said .answer .given .0 .0) (sym (said .answer .given .1) ∙ read .read .ensures .0)
 
 returns-2 : tie.Need-returns-2
-returns-2 c = sym (drop-of-length-le (now (c .before .before .args .job)) {i = c .before .before .args .start}
-    (omega (arith, c .before .if1 .left)))
+returns-2 c =
+    let told = c .before in
+    let read = told .before .before .before .before in
+    let a = read .before .before .before .before .args in
+    sheet-bad (now (a .job)) (told .enum-told .given .0 .0) (sym (told .enum-told .given .1) ∙ read .read .ensures .0)
 
 pub sheet-spec : {M : Type 1} → statement M
 sheet-spec =
@@ -25,7 +28,10 @@ sheet-spec =
     (tie.spec
     (λ c. search needs)
     (λ c. search needs)
+    (λ c κs. search needs)
+    (λ c. search needs)
+    (λ c κs. search needs)
+    (λ c. search needs)
     (λ c. search needs)
     returns
-    (λ c. search needs)
     returns-2)
