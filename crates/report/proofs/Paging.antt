@@ -49,9 +49,9 @@ module _ (on : ℕ → Heard → Reading) (keeps : (at : ℕ) (h : Heard) → Fe
   few-cell z l false e = f
 
   few-item : (i : Item) → Few (follow i at h on .heard)
-  few-item (Cell z l) = few-cell z l (ltb (length (h .values)) 1024) refl
+  few-item (Cell z l) = few-cell z (l .0) (ltb (length (h .values)) 1024) refl
   few-item (Allowance k) = keeps (at + 5) (withAllowance h k) (record { values = f .values; labels = f .labels })
-  few-item (Reader l) = keeps (at + 5) (withReader h l) (record { values = f .values; labels = f .labels })
+  few-item (Reader l) = keeps (at + 5) (withReader h (l .0)) (record { values = f .values; labels = f .labels })
   few-item Sheet = f
   few-item Bad = f
 

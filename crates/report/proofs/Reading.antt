@@ -7,6 +7,7 @@ use native.Mathlib.Omega.{arith}
 use lib.IntN.{ℤ, pos}
 use lib.ListN.{length, take, set, length-append}
 use borrow.Author.Tests.{lt-ltb, le-ltb, le-leb, lt-leb}
+use Rattle.label.specs.declared.Label.{Label}
 use Rattle.report.specs.declared.job.Item.{Item}
 use Rattle.report.specs.declared.job.Item.the-variants.{Cell, Allowance, Reader, Sheet, Bad}
 use Rattle.report.specs.declared.job.Job.{Job}
@@ -141,12 +142,12 @@ module _ (s : List ℕ) (values₀ labels₀ values labels : List ℤ) (at cells
         (Job.Read (record { cells = cells; allowance = allowance; reader = record { 0 = reader }; sheet = at + 1 })) values labels
     going-sheet e = rw (g .count) at (ends (sheet (at + 1)) (turn Sheet e))
 
-    pub going-limit : (z : ℤ) (l : ℕ) → itemAt s at ≡ Cell z l → cells ≡ 1024
+    pub going-limit : (z : ℤ) (l : Label) → itemAt s at ≡ Cell z l → cells ≡ 1024
         → Answered s values₀ labels₀ (answerOf heard (bad at)) values labels
     going-limit z l e f = ends (bad at) (rw (g .count, f) at (turn (Cell z l) e))
 
-    pub going-cell : (z : ℤ) (l : ℕ) → itemAt s at ≡ Cell z l → (cells ≡ 1024 → ⊥)
-        → Going s values₀ labels₀ (set values cells z) (set labels cells (pos l)) (at + 13) (cells + 1) allowance reader
+    pub going-cell : (z : ℤ) (l : Label) → itemAt s at ≡ Cell z l → (cells ≡ 1024 → ⊥)
+        → Going s values₀ labels₀ (set values cells z) (set labels cells (pos (l .0))) (at + 13) (cells + 1) allowance reader
     going-cell z l e f =
         let k = g .few in
         let c = g .count in
@@ -154,7 +155,7 @@ module _ (s : List ℕ) (values₀ labels₀ values labels : List ℤ) (at cells
         let room : length (g .values-heard) < 1024 = omega arith in
         record {
           values-heard = g .values-heard ++ (z ∷ []);
-          labels-heard = g .labels-heard ++ (pos l ∷ []);
+          labels-heard = g .labels-heard ++ (pos (l .0) ∷ []);
           commands = g .commands - 1;
           short = g .short;
           enough = let k = g .enough in omega arith;
@@ -162,7 +163,7 @@ module _ (s : List ℕ) (values₀ labels₀ values labels : List ℤ) (at cells
           count = simp length-append (omega arith);
           pairs = simp length-append (omega arith);
           stored = rw (← g .count, g .stored) (fitted-snoc (g .values-heard) z values₀);
-          marked = rw (← g .pairs, g .marked) (fitted-snoc (g .labels-heard) (pos l) labels₀);
+          marked = rw (← g .pairs, g .marked) (fitted-snoc (g .labels-heard) (pos (l .0)) labels₀);
           left = rw (lt-ltb (length (g .values-heard)) 1024 room) at (turn (Cell z l) e);
         }
 
@@ -183,7 +184,7 @@ module _ (s : List ℕ) (values₀ labels₀ values labels : List ℤ) (at cells
           left = turn (Allowance n) e;
         }
 
-    pub going-reader : (l : ℕ) → itemAt s at ≡ Reader l → Going s values₀ labels₀ values labels (at + 5) cells allowance l
+    pub going-reader : (l : Label) → itemAt s at ≡ Reader l → Going s values₀ labels₀ values labels (at + 5) cells allowance (l .0)
     going-reader l e =
         record {
           values-heard = g .values-heard;

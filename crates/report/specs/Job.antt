@@ -29,7 +29,7 @@ fourAt s at = unsigned (unsignedAt 4 s at)
 
 -- 40 cell: 8-byte number, 4-byte label
 abbrev pub labelled : ℤ → Unsigned → Item
-labelled z (Unsigned.Is l) = Cell z l
+labelled z (Unsigned.Is l) = Cell z (record { 0 = l })
 labelled z Unsigned.Cut = Bad
 
 abbrev pub cell : Field → Unsigned → Item
@@ -43,7 +43,7 @@ allowance Unsigned.Cut = Bad
 
 -- 42 reader's set (4)
 abbrev pub readerSet : Unsigned → Item
-readerSet (Unsigned.Is l) = Reader l
+readerSet (Unsigned.Is l) = Reader (record { 0 = l })
 readerSet Unsigned.Cut = Bad
 
 -- the command at an offset, its operands after its byte: 40, 41, 42, or 43 sheet; an unknown byte and a cut operand are bad
@@ -97,9 +97,9 @@ reading h e = record { heard = h; ending = e }
 
 -- the 1,025th cell is bad
 abbrev pub follow : Item → ℕ → Heard → (ℕ → Heard → Reading) → Reading
-follow (Cell z l) at h on = choose (ltb (length (h .values)) 1024) (on (at + 13) (withCell h z l)) (reading h (bad at))
+follow (Cell z l) at h on = choose (ltb (length (h .values)) 1024) (on (at + 13) (withCell h z (l .0))) (reading h (bad at))
 follow (Allowance n) at h on = on (at + 5) (withAllowance h n)
-follow (Reader l) at h on = on (at + 5) (withReader h l)
+follow (Reader l) at h on = on (at + 5) (withReader h (l .0))
 follow Sheet at h on = reading h (sheet (at + 1))
 follow Bad at h on = reading h (bad at)
 

@@ -28,9 +28,9 @@ enum Unsigned {
 
 // A command of a job.
 enum Item {
-    Cell(i64, u32),
+    Cell(i64, Label),
     Allowance(u32),
-    Reader(u32),
+    Reader(Label),
     Sheet,
     Bad,
 }
@@ -50,7 +50,7 @@ fn cell(number: Field, label: Unsigned) -> Item
 {
     match number {
         Field::Number(z) => match label {
-            Unsigned::Is(l) => Item::Cell(z, l),
+            Unsigned::Is(l) => Item::Cell(z, Label(l)),
             Unsigned::Cut => Item::Bad,
         },
         Field::Cut => Item::Bad,
@@ -70,7 +70,7 @@ fn reader_set(field: Unsigned) -> Item
     ensures { λ r. ⌜ r ≡ Jobs.readerSet field ⌝ }
 {
     match field {
-        Unsigned::Is(l) => Item::Reader(l),
+        Unsigned::Is(l) => Item::Reader(Label(l)),
         Unsigned::Cut => Item::Bad,
     }
 }
@@ -108,7 +108,7 @@ pub fn read(job: &[u8], values: &mut [i64], labels: &mut [i64]) -> Job
     let mut at: usize = 0;
     let mut cells: usize = 0;
     let mut allowance: u64 = 1000000;
-    let mut reader: u32 = 0;
+    let mut reader: Label = Label::EMPTY;
     while at < job.len() {
         let item = item_at(job, at);
         match item {
@@ -117,7 +117,7 @@ pub fn read(job: &[u8], values: &mut [i64], labels: &mut [i64]) -> Job
                     return Job::Bad(at);
                 }
                 word::memory::put(values, cells, number);
-                word::memory::put(labels, cells, label as i64);
+                word::memory::put(labels, cells, label.word());
                 cells += 1;
                 at += 13;
             }
@@ -133,7 +133,7 @@ pub fn read(job: &[u8], values: &mut [i64], labels: &mut [i64]) -> Job
                 return Job::Read(Said {
                     cells,
                     allowance,
-                    reader: Label(reader),
+                    reader,
                     sheet: at + 1,
                 });
             }

@@ -3,11 +3,9 @@
 use borrow.Author.Needs.{needs}
 use native.Mathlib.Omega.{arith}
 use mathlib.Core.Path.{_≡_, _∙_, sym}
-use Prim.Native.Nat.{_-_, _^_, _<_}
+use Prim.Native.Nat.{_-_, _<_}
 use denote.Ref.{now}
 use lib.ListN.{length}
-use mir.Syntax.{w64}
-use mir.Facts.{toZ-pos}
 use Rattle.word.proofs.Signed.{back-ok}
 use Rattle.report.specs.declared.job.Item.{Item}
 use Rattle.report.specs.Job.{itemAt}
@@ -19,7 +17,7 @@ use Rattle.report.proofs.job.read.Tie as tie
 
 abbrev Inv-loop : tie.InvT-loop
 Inv-loop job values₀ labels₀ at₀ cells₀ allowance₀ reader₀ values labels at cells allowance reader =
-    Going job values₀ labels₀ values labels at cells allowance reader
+    Going job values₀ labels₀ values labels at cells allowance (reader .0)
 
 abbrev μ-loop : tie.MeasureT-loop
 μ-loop job values₀ labels₀ at₀ cells₀ allowance₀ reader₀ values labels at cells allowance reader = length job - at
@@ -66,7 +64,7 @@ returns-2 c =
 
 add-cells : tie.Need-add-cells Inv-loop μ-loop
 add-cells c =
-    let at-item-at = c .before .before .before .before .before .before .before .before .before .before in
+    let at-item-at = c .before .before .before .before .before .before .before .before .before .before .before in
     record {
       fits = omega (
         arith,
@@ -76,26 +74,26 @@ add-cells c =
 
 add-at : tie.Need-add-at Inv-loop μ-loop
 add-at c =
-    let t = c .before .before .before .before .before .before .before .before .before .before in
+    let t = c .before .before .before .before .before .before .before .before .before .before .before in
     record { fits = omega (arith, head t .loop .inv .short, taken t) }
 
 loop-less : tie.Need-loop-less Inv-loop μ-loop
 loop-less c =
-    let at-item-at = c .before .before .before .before .before .before .before .before .before .before in
+    let at-item-at = c .before .before .before .before .before .before .before .before .before .before .before in
     omega (arith, taken at-item-at)
 
 loop-again : tie.Need-loop-again Inv-loop μ-loop
 loop-again c =
-    let at-if2 = c .before .before .before .before .before .before in
-    let t = c .before .before .before .before .before .before .before .before .before .before in
-    let item = c .before .before .before .before .before .before .before .before .item in
-    let told = c .before .before .before .before .before .before .before .known-told .given .0 in
-    let small : item .given .0 .1 .0 < 2 ^ 63 = omega (arith, told) in
+    let at-if2 = c .before .before .before .before .before .before .before in
+    let t = c .before .before .before .before .before .before .before .before .before .before .before in
+    let item = c .before .before .before .before .before .before .before .before .before .item in
+    let told = c .before .before .before .before .before .before .before .before .known-told .given .0 in
     rw (
       c .before .put2 .ensures,
-      c .before .before .before .before .put .ensures,
+      back-ok (c .before .before .word .result) (c .before .before .word .ok),
+      c .before .before .word .ensures,
+      c .before .before .before .before .before .put .ensures,
       back-ok (item .given .0 .0) (told .1),
-      toZ-pos w64 small,
     )
     (going-cell _ _ _ _ _ _ _ _ _ (head t .loop .inv) (taken t) _ _ (is t (item .given .1))
     (at-if2 .if2 .left))
@@ -122,8 +120,8 @@ loop-again-3 c =
     let t = c .before .before .before in
     going-reader _ _ _ _ _ _ _ _ _ (head t .loop .inv) (taken t) _ (is t (c .before .item3 .given .1))
 
-add-t25 : tie.Need-add-t25 Inv-loop μ-loop
-add-t25 c = record { fits = omega (arith, head (c .before .before) .loop .inv .short, taken (c .before .before)) }
+add-t24 : tie.Need-add-t24 Inv-loop μ-loop
+add-t24 c = record { fits = omega (arith, head (c .before .before) .loop .inv .short, taken (c .before .before)) }
 
 same-length-3 : tie.Need-same-length-3 Inv-loop μ-loop
 same-length-3 c = same-values (c .before .before .before .before)
@@ -186,7 +184,7 @@ read-spec =
     loop-less-3
     loop-again-3
     (λ c. search needs)
-    add-t25
+    add-t24
     same-length-3
     same-length-4
     returns-3
