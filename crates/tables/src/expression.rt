@@ -64,7 +64,7 @@ fn leaf_of(token: Token, supplied: usize, labels: Labels) -> Leaf
     let input2 = labels.input2;
     let input3 = labels.input3;
     match token {
-        Token::Empty => Leaf::Is(Label(0)),
+        Token::Empty => Leaf::Is(Label::EMPTY),
         Token::Place => Leaf::Is(place),
         Token::Input1 => input(1 <= supplied, input1),
         Token::Input2 => input(2 <= supplied, input2),

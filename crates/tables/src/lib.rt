@@ -67,7 +67,7 @@ fn read_result(bytes: &[u8], at: usize, supplied: usize, result: bool, labels: L
         return LabelRead::Fault(at);
     }
     if bytes[at] == 0x10 {
-        LabelRead::Is(Label(0), at + 1)
+        LabelRead::Is(Label::EMPTY, at + 1)
     } else {
         LabelRead::Fault(at)
     }
@@ -124,10 +124,10 @@ pub fn check_table(bytes: &[u8]) -> Checked
         });
     }
     let labels = Labels {
-        place: Label(0),
-        input1: Label(0),
-        input2: Label(0),
-        input3: Label(0),
+        place: Label::EMPTY,
+        input1: Label::EMPTY,
+        input2: Label::EMPTY,
+        input3: Label::EMPTY,
     };
     let mut at: usize = 0;
     let mut i: u64 = 0;

@@ -42,7 +42,7 @@ fn input_stored(supplied: bool, word: i64) -> Stored
         return Label::of_word(word);
     }
     if is_mark(word) {
-        Stored::Of(Label(0))
+        Stored::Of(Label::EMPTY)
     } else {
         Stored::Nothing
     }
