@@ -2,17 +2,17 @@
 use Prim.Native.Nat.{ℕ}
 use mathlib.Core.List.{List}
 use lib.IntN.{ℤ, pos}
-use lib.ListN.{length, getD, set}
 use lib.Dec.{ltb, eqb}
 use Rattle.word.specs.Choose.{choose}
-use Rattle.word.specs.declared.number.Index.{Index}
-use Rattle.word.specs.declared.number.Index.the-variants.{At, Outside}
-use Rattle.word.specs.Number.{isZero, indexOf}
+use Rattle.word.specs.Number.{isZero}
 use Rattle.word.specs.Wrap.{addWrap, subWrap}
 use Rattle.stack.specs.declared.Machine.{Machine}
 use Rattle.stack.specs.declared.Stepped.{Stepped}
 use Rattle.stack.specs.Words.{pushed, pushedStack, refilledStack, dropped, gone, following, outcome, carriedOut, printing}
-use Rattle.step.specs.Lent.{Cells, cells, Lent, After, after, OnStack, onStack, withStack, OnCells, onCells, withCells}
+use Rattle.step.specs.declared.cell.Content.{Content}
+use Rattle.step.specs.declared.cell.Content.the-variants.{Number, Outside}
+use Rattle.step.specs.Lent.{Cells, Lent, After, after, OnStack, onStack, withStack, OnCells, onCells, withCells}
+use Rattle.step.specs.Cell.{cellAt, isCell, numberOf, written}
 use Rattle.step.specs.Find.{first, second}
 
 -- Add has code 1, Sub 2
@@ -41,22 +41,19 @@ module _ (p r : ℕ) (m : Machine) where
       (onStack (outcome (following (pushed m) p) carriedOut) (pushedStack m stack (pos 0) operand r))
       (onStack (outcome m 7) stack)
 
-  abbrev pub loadFrom : List ℤ → List ℤ → Index → OnStack
-  loadFrom stack values Outside = onStack (outcome m 5) stack
-  loadFrom stack values (At i) = refilling (dropped m) stack (getD values i (pos 0)) r p
+  abbrev pub loadFrom : List ℤ → Content → OnStack
+  loadFrom stack Outside = onStack (outcome m 5) stack
+  loadFrom stack (Number number) = refilling (dropped m) stack number r p
 
   unfoldable pub loadEffect : List ℤ → List ℤ → OnStack
-  loadEffect stack values = loadFrom stack values (indexOf (first m stack .number) (length values))
-
-  abbrev pub storeTo : List ℤ → Cells → Index → OnCells
-  storeTo stack c Outside = onCells (outcome m 5) c
-  storeTo stack c (At i) =
-      onCells
-      (outcome (following (dropped (dropped m)) p) carriedOut)
-      (cells (set (c .values) i (second m stack .number)) (set (c .labels) i (pos r)))
+  loadEffect stack values = loadFrom stack (numberOf values (cellAt (first m stack .number) values))
 
   unfoldable pub storeEffect : List ℤ → Cells → OnCells
-  storeEffect stack c = storeTo stack c (indexOf (first m stack .number) (length (c .values)))
+  storeEffect stack c =
+      let cell = cellAt (first m stack .number) (c .values) in
+      onCells
+      (choose (isCell cell) (outcome (following (dropped (dropped m)) p) carriedOut) (outcome m 5))
+      (written (second m stack .number) r c cell)
 
   -- the argument is pushed again above the frame
   unfoldable pub callEffect : List ℤ → OnStack

@@ -2,20 +2,18 @@
 use Prim.Native.Nat.{ℕ}
 use mathlib.Core.Bool.{Bool}
 use mathlib.Core.List.{List}
-use lib.IntN.{ℤ, pos}
-use lib.ListN.{length, getD}
+use lib.IntN.{ℤ}
 use lib.Dec.{ltb, eqb}
 use Rattle.word.specs.Choose.{choose}
-use Rattle.word.specs.declared.number.Index.{Index}
-use Rattle.word.specs.declared.number.Index.the-variants.{At, Outside}
-use Rattle.word.specs.Number.{indexOf}
 use Rattle.label.specs.Label.{bottom}
-use Rattle.label.specs.Word.{lowLabel}
 use Rattle.stack.specs.declared.Machine.{Machine}
 use Rattle.stack.specs.declared.Slot.{Slot}
 use Rattle.stack.specs.Words.{carriedOut, slotAt}
 use Rattle.step.specs.declared.find.Inputs.{Inputs}
-use Rattle.step.specs.Lent.{Cells, Lent}
+use Rattle.step.specs.declared.cell.Held.{Held}
+use Rattle.step.specs.declared.cell.Held.the-variants.{Of, Outside}
+use Rattle.step.specs.Lent.{Lent}
+use Rattle.step.specs.Cell.{cellAt, labelOf}
 
 -- so many inputs, and their labels; a missing one has the empty label
 abbrev pub inputs : ℕ → ℕ → ℕ → ℕ → Inputs
@@ -31,10 +29,6 @@ isValue s = eqb (s .kind) 0
 
 abbrev pub isFrame : Slot → Bool
 isFrame s = eqb (s .kind) 1
-
--- the label of the cell at an index
-abbrev pub cellLabel : Cells → ℕ → ℕ
-cellLabel c i = lowLabel (getD (c .labels) i (pos 0))
 
 module _ (m : Machine) (stack : List ℤ) where
   -- the top, the next
@@ -65,17 +59,17 @@ module _ (m : Machine) (stack : List ℤ) where
   oneFrame = choose (isFrame first) (inputs 1 (first .label .0) bottom bottom) (halted 4)
 
 module _ (m : Machine) (l : Lent) where
-  -- the cell at the address on top
-  abbrev pub addressed : Index
-  addressed = indexOf (first m (l .stack) .number) (length (l .cells .values))
+  -- the label of the cell at the address on top
+  abbrev pub addressed : Held
+  addressed = labelOf (l .cells) (cellAt (first m (l .stack) .number) (l .cells .values))
 
-  abbrev pub loadFinding : Index → Inputs
+  abbrev pub loadFinding : Held → Inputs
   loadFinding Outside = halted 5
-  loadFinding (At i) = inputs 2 (first m (l .stack) .label .0) (cellLabel (l .cells) i) bottom
+  loadFinding (Of label) = inputs 2 (first m (l .stack) .label .0) (label .0) bottom
 
-  abbrev pub storeFinding : Index → Inputs
+  abbrev pub storeFinding : Held → Inputs
   storeFinding Outside = halted 5
-  storeFinding (At i) = inputs 3 (first m (l .stack) .label .0) (second m (l .stack) .label .0) (cellLabel (l .cells) i)
+  storeFinding (Of label) = inputs 3 (first m (l .stack) .label .0) (second m (l .stack) .label .0) (label .0)
 
   unfoldable pub loadCell : Inputs
   loadCell = ifValue m (l .stack) (loadFinding addressed)

@@ -1,3 +1,4 @@
 pub mod Lent
+pub mod Cell
 pub mod Find
 pub mod Effect

@@ -1,10 +1,11 @@
 // What a command does, given the new place label and the result label of a ruling. Read specs/Effect.antt first.
+use crate::cell;
+use crate::cell::Content;
 use label::Label;
 use stack::Machine;
 use stack::Stepped;
 use word::kind::Address;
 use word::kind::Pc;
-use word::number::Index;
 ghost use mathlib.Core.Path.{_≡_};
 ghost use Rattle.step.specs.Lent.{cells, lent, after, onStack, onCells};
 ghost use Rattle.step.specs.Effect.{sumOf, branchOf, arithEffect, popEffect, outputEffect, pushEffect};
@@ -78,13 +79,13 @@ pub fn load(place: Label, result: Label, m: Machine, stack: &mut [i64], values: 
 {
     let depth = m.depth;
     let a = stack::look(stack, depth, 0);
-    let cell = Address(a.number).index(values.len());
-    match cell {
-        Index::At(i) => {
-            let over = m.drop().refill(stack, word::memory::at(values, i), result);
+    let content = cell::number_at(Address(a.number), values);
+    match content {
+        Content::Number(number) => {
+            let over = m.drop().refill(stack, number, result);
             stack::carried(over.following(place))
         }
-        Index::Outside => stack::stopped(m, 5),
+        Content::Outside => stack::stopped(m, 5),
     }
 }
 
@@ -101,16 +102,12 @@ pub fn store(
         ≡ storeEffect (place .0) (result .0) m (now (stack .entry)) (cells (now (values .entry)) (now (labels .entry))) ⌝ }
 {
     let depth = m.depth;
+    let b = stack::look(stack, depth, 1);
     let a = stack::look(stack, depth, 0);
-    let cell = Address(a.number).index(values.len());
-    match cell {
-        Index::At(i) => {
-            let b = stack::look(stack, depth, 1);
-            word::memory::put(values, i, b.number);
-            word::memory::put(labels, i, result.word());
-            stack::carried(m.drop().drop().following(place))
-        }
-        Index::Outside => stack::stopped(m, 5),
+    if cell::write(Address(a.number), b.number, result, values, labels) {
+        stack::carried(m.drop().drop().following(place))
+    } else {
+        stack::stopped(m, 5)
     }
 }
 

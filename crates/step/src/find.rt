@@ -1,9 +1,10 @@
 // What a command finds: a stop, or the labels of its inputs. Read specs/Find.antt first.
+use crate::cell;
+use crate::cell::Held;
 use label::Label;
 use stack::CARRIED;
 use stack::Machine;
 use word::kind::Address;
-use word::number::Index;
 ghost use mathlib.Core.Path.{_≡_};
 ghost use Rattle.step.specs.Lent.{cells, lent};
 ghost use Rattle.step.specs.Find.{inputs, halted, twoValues, oneValue, callValues, oneFrame, loadCell, storeCell, findOf};
@@ -108,13 +109,10 @@ pub fn load_cell(m: Machine, stack: &[i64], values: &[i64], labels: &[i64]) -> I
     if a.kind != 0 {
         return halt(3);
     }
-    let cell = Address(a.number).index(values.len());
-    match cell {
-        Index::At(i) => {
-            let held = Label::low(word::memory::at(labels, i));
-            found(2, a.label, held, Label::EMPTY)
-        }
-        Index::Outside => halt(5),
+    let held = cell::label_at(Address(a.number), values, labels);
+    match held {
+        Held::Of(label) => found(2, a.label, label, Label::EMPTY),
+        Held::Outside => halt(5),
     }
 }
 
@@ -131,13 +129,10 @@ pub fn store_cell(m: Machine, stack: &[i64], values: &[i64], labels: &[i64]) -> 
     if a.kind != 0 {
         return halt(3);
     }
-    let cell = Address(a.number).index(values.len());
-    match cell {
-        Index::At(i) => {
-            let held = Label::low(word::memory::at(labels, i));
-            found(3, a.label, b.label, held)
-        }
-        Index::Outside => halt(5),
+    let held = cell::label_at(Address(a.number), values, labels);
+    match held {
+        Held::Of(label) => found(3, a.label, b.label, label),
+        Held::Outside => halt(5),
     }
 }
 

@@ -20,6 +20,7 @@ use Rattle.machine.specs.Step.{Outcome, Request, ask, provided, withValues, sta
 use Rattle.stack.specs.Words.{machine, pushed, dropped, gone, slotAt}
 use Rattle.step.specs.declared.find.Inputs.{Inputs}
 use Rattle.step.specs.Lent.{Cells, cells, Lent, After, after, OnStack, withStack}
+use Rattle.step.specs.Cell.{labelOf}
 use Rattle.step.specs.Find.{first, second, loadFinding, storeFinding, twoValues, oneValue, callValues, oneFrame, loadCell, storeCell}
 use Rattle.step.specs.Find.{findOf}
 use Rattle.step.specs.Effect.{sumOf, branchOf, refilling, arithEffect, popEffect, outputEffect, pushEffect}
@@ -195,7 +196,7 @@ module _ {room : ℕ} {o₀ : Memory.Output} {s : State} {l : Lent} {o : Memory.
   load-looks =
       rw first-is (value-needed (Asks Load) (s .stack) _ _ _ refl (λ a rest e.
       rw (ap topSlot e, count) (cell-needed (Asks Load) (s .memory) (a .number) _
-      (λ j. loadFinding (machineOf s) l j) refl
+      (λ j. loadFinding (machineOf s) l (labelOf (l .cells) j)) refl
       (λ i c at g. (
         rw (first-is, e, label-read labels (h .labels .memory) at),
         λ p label.
@@ -207,7 +208,7 @@ module _ {room : ℕ} {o₀ : Memory.Output} {s : State} {l : Lent} {o : Memory.
   store-looks =
       rw (first-is, second-is) (values-needed (Asks Store) (s .stack) _ _ _ refl (λ a b rest e.
       rw (ap topSlot e, count) (cell-needed (Asks Store) (s .memory) (a .number) _
-      (λ j. storeFinding (machineOf s) l j) refl
+      (λ j. storeFinding (machineOf s) l (labelOf (l .cells) j)) refl
       (λ i c at g. (
         rw (first-is, second-is, e, label-read labels (h .labels .memory) at),
         λ p label.

@@ -18,37 +18,32 @@ returns c =
 returns-2 : tie.Need-returns-2
 unfolding loadCell
 returns-2 c =
-    let at-low = c .before in
-    let at-at = at-low .before in
-    let at-cell = at-at .before .before in
-    let at-index = at-cell .before .before in
-    let at-if = at-index .before .before in
+    let told = c .before .before in
+    let at-held = told .before .before in
+    let at-if = at-held .before .before in
     let at-look = at-if .before .before in
     rw (
       ← at-look .look .ensures,
       eq-eqb _ _ (at-if .if1 .left),
-      ← (rw (back-ok (at-look .look .result .number) (omega (arith, at-look .look .ok))) at (at-index .index .ensures)),
-      at-cell .cell .given .1,
+      ← (rw (back-ok (at-look .look .result .number) (omega (arith, at-look .look .ok))) at (at-held .label-at .ensures)),
+      told .held .given .1,
       ← at-look .look .ensures,
       c .found .ensures,
-      at-low .low .ensures,
-      back-ok (at-at .at .result) (at-at .at .ok),
-      at-at .at .ensures,
     )
 
 returns-3 : tie.Need-returns-3
 unfolding loadCell
 returns-3 c =
-    let at-told = c .before in
-    let at-index = at-told .before .before in
-    let at-if = at-index .before .before in
+    let told = c .before in
+    let at-held = told .before .before in
+    let at-if = at-held .before .before in
     let at-look = at-if .before .before in
     rw (
       c .halt2 .ensures,
       ← at-look .look .ensures,
       eq-eqb _ _ (at-if .if1 .left),
-      ← (rw (back-ok (at-look .look .result .number) (omega (arith, at-look .look .ok))) at (at-index .index .ensures)),
-      at-told .enum-told .given .1,
+      ← (rw (back-ok (at-look .look .result .number) (omega (arith, at-look .look .ok))) at (at-held .label-at .ensures)),
+      told .enum-told .given .1,
     )
 
 pub load-cell-spec : {M : Type 1} → statement M
@@ -60,8 +55,6 @@ load-cell-spec =
     returns
     (λ c κs. search needs)
     (λ c. search needs)
-    (λ c κs. search needs)
-    (λ c κs. search needs)
     (λ c κs. search needs)
     (λ c. search needs)
     (λ c κs. search needs)

@@ -33,11 +33,9 @@ returns-2 c =
 returns-3 : tie.Need-returns-3
 unfolding storeCell
 returns-3 c =
-    let at-low = c .before in
-    let at-at = at-low .before in
-    let at-cell = at-at .before .before in
-    let at-index = at-cell .before .before in
-    let at-if2 = at-index .before .before in
+    let told = c .before .before in
+    let at-held = told .before .before in
+    let at-if2 = at-held .before .before in
     let at-look2 = at-if2 .before .before in
     let at-if1 = at-look2 .before in
     let at-look = at-if1 .before .before in
@@ -46,22 +44,19 @@ returns-3 c =
       ← at-look2 .look2 .ensures,
       eq-eqb _ _ (at-if1 .if1 .left),
       eq-eqb _ _ (at-if2 .if2 .left),
-      ← (rw (back-ok (at-look2 .look2 .result .number) (omega (arith, at-look2 .look2 .ok))) at (at-index .index .ensures)),
-      at-cell .cell .given .1,
+      ← (rw (back-ok (at-look2 .look2 .result .number) (omega (arith, at-look2 .look2 .ok))) at (at-held .label-at .ensures)),
+      told .held .given .1,
       ← at-look .look .ensures,
       ← at-look2 .look2 .ensures,
       c .found .ensures,
-      at-low .low .ensures,
-      back-ok (at-at .at .result) (at-at .at .ok),
-      at-at .at .ensures,
     )
 
 returns-4 : tie.Need-returns-4
 unfolding storeCell
 returns-4 c =
-    let at-told = c .before in
-    let at-index = at-told .before .before in
-    let at-if2 = at-index .before .before in
+    let told = c .before in
+    let at-held = told .before .before in
+    let at-if2 = at-held .before .before in
     let at-look2 = at-if2 .before .before in
     let at-if1 = at-look2 .before in
     let at-look = at-if1 .before .before in
@@ -71,8 +66,8 @@ returns-4 c =
       ← at-look2 .look2 .ensures,
       eq-eqb _ _ (at-if1 .if1 .left),
       eq-eqb _ _ (at-if2 .if2 .left),
-      ← (rw (back-ok (at-look2 .look2 .result .number) (omega (arith, at-look2 .look2 .ok))) at (at-index .index .ensures)),
-      at-told .enum-told .given .1,
+      ← (rw (back-ok (at-look2 .look2 .result .number) (omega (arith, at-look2 .look2 .ok))) at (at-held .label-at .ensures)),
+      told .enum-told .given .1,
     )
 
 pub store-cell-spec : {M : Type 1} → statement M
@@ -87,8 +82,6 @@ store-cell-spec =
     returns-2
     (λ c κs. search needs)
     (λ c. search needs)
-    (λ c κs. search needs)
-    (λ c κs. search needs)
     (λ c κs. search needs)
     (λ c. search needs)
     (λ c κs. search needs)
