@@ -5,8 +5,11 @@ use mathlib.Core.Bool.{Bool, true, false}
 use mathlib.Core.List.{List, [], _∷_, _++_}
 use Prim.Native.Nat.{ℕ}
 use lib.IntN.{ℤ}
-use lib.ListN.{drop}
+use lib.ListN.{length, drop}
+use lib.Seq.{take-append-seam}
+use borrow.Author.Tests.{le-ltb}
 use Rattle.word.specs.Choose.{choose}
+use Rattle.word.specs.Lay.{laid}
 use Rattle.word.proofs.Bool.{never}
 use Rattle.label.specs.Label.{flows}
 use Rattle.machine.specs.Atom.{Line}
@@ -21,9 +24,9 @@ use Rattle.tagged.specs.Tagged.{Left, left}
 use Rattle.report.specs.Job.{Heard, Ending, sheet, readJob, sheetFrom, sheetOf}
 use Rattle.report.specs.Job as Job
 use Rattle.report.specs.Lines.{lineText, linesText}
-use Rattle.report.specs.Page.{zeros, lentFor, endFor, answerText, endedText, runText, readingText, pageOf}
+use Rattle.report.specs.Page.{zeros, lentFor, endFor, answerText, endedText, runText, readingText, pageOf, pageLimit}
 use Rattle.claims.specs.Privacy.{Ran, onTagged, linesIn}
-use Rattle.claims.specs.Pages.{readerOf, cellWordsOf, cellsGiven, answered, fateFrom, fateOf, Claim, Says, Unrun}
+use Rattle.claims.specs.Pages.{readerOf, cellWordsOf, cellsGiven, answered, fateFrom, fateOf, Claim, Says, Unrun, Printed}
 use Rattle.claims.specs.Pages as Pages
 use Rattle.claims.proofs.Private.{runs-private}
 use Rattle.claims.proofs.Starts.{texts, texts-starts}
@@ -111,3 +114,8 @@ pages-unrun job = go (readJob job .ending)
     go (Job.bad offset) = refl
     go (sheet start) =
         let h : Heard = readJob job .heard in unrun-answer (h .reader) (endFor (cellWordsOf h) (h .allowance) (drop start job) .ended)
+
+pub pages-printed : Printed
+unfolding laid
+pages-printed job out h =
+    rw (le-ltb (length out) pageLimit h) (take-append-seam (pageOf job) (drop (length (pageOf job)) out))

@@ -1,8 +1,8 @@
 -- Demand 3 for pages: what the page of a job tells its reader. This file states it; proofs/PagesPrivate.antt and PagesRefused.antt show it.
-use Prim.Native.Nat.{ℕ, _<_}
+use Prim.Native.Nat.{ℕ, _<_, _≤_}
 use mathlib.Core.Path.{_≡_}
 use mathlib.Core.List.{List}
-use lib.ListN.{drop, getD}
+use lib.ListN.{length, drop, getD}
 use Rattle.machine.specs.Atom.{Atom}
 use Rattle.machine.specs.Claim.{Alike, OneStartsOther}
 use Rattle.step.specs.Lent.{Cells, cells}
@@ -12,7 +12,7 @@ use Rattle.engine.specs.Layout.{cellsOf}
 use Rattle.report.specs.Job.{Heard, Ending, sheet, readJob, sheetOf}
 use Rattle.report.specs.Job as Job
 use Rattle.report.specs.Lines.{jobText, refusedText}
-use Rattle.report.specs.Page.{endFor, pageOf}
+use Rattle.report.specs.Page.{endFor, pageOf, pageLimit, pageAnswer, pageOut, printedOf}
 
 -- what a job says
 abbrev pub readerOf : List ℕ → ℕ
@@ -62,6 +62,10 @@ Says page ran = Unit
 
 abbrev pub Unrun : Type 0
 Unrun = (job : List ℕ) → Says (pageOf job) (fateOf job)
+
+-- in a space that holds the longest page, what is printed of it is the whole page and nothing else
+abbrev pub Printed : Type 0
+Printed = (job out : List ℕ) → pageLimit ≤ length out → printedOf (pageAnswer job out) (pageOut job out) ≡ pageOf job
 
 -- a job that is not bad: its sheet starts somewhere
 abbrev pub Read : List ℕ → Type 0

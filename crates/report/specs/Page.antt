@@ -1,8 +1,8 @@
 -- The page of a job: the bytes that document 01's page program prints.
 use Prim.Native.Nat.{ℕ, _*_}
-use mathlib.Core.List.{List}
+use mathlib.Core.List.{List, []}
 use lib.IntN.{ℤ, pos}
-use lib.ListN.{length, drop, replicate}
+use lib.ListN.{length, take, drop, replicate}
 use lib.Dec.{ltb}
 use Rattle.word.specs.Choose.{choose}
 use Rattle.word.specs.Lay.{laid}
@@ -60,3 +60,8 @@ pageAnswer job out = choose (ltb (length out) pageLimit) Outcome.Short (Outcome.
 
 abbrev pub pageOut : (job out : List ℕ) → List ℕ
 pageOut job out = choose (ltb (length out) pageLimit) out (laid (pageOf job) out)
+
+-- of that space the page is printed, or nothing
+abbrev pub printedOf : Outcome → List ℕ → List ℕ
+printedOf (Outcome.Written n) out = take n out
+printedOf Outcome.Short out = []

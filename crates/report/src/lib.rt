@@ -13,7 +13,7 @@ ghost use lib.ListN.{length, take};
 ghost use Rattle.step.specs.Lent.{cells};
 ghost use Rattle.report.specs.Job.{sheetOf};
 ghost use Rattle.report.specs.Written.{Written};
-ghost use Rattle.report.specs.Page.{runText, pageOf, pageLimit, pageAnswer, pageOut};
+ghost use Rattle.report.specs.Page.{runText, pageOf, pageLimit, pageAnswer, pageOut, printedOf};
 
 // No page is longer.
 pub const PAGE_LIMIT: usize = 30720;
@@ -108,4 +108,20 @@ pub fn page(job: &[u8], out: &mut [u8]) -> Outcome
         return Outcome::Short;
     }
     Outcome::Written(write(job, out))
+}
+
+// The part of a space that is to be printed: as many bytes from its start as were written, or none.
+pub fn printed(made: Outcome, out: &[u8]) -> &[u8]
+    ensures { λ r. ⌜ now r ≡ printedOf made (now (out .entry)) ⌝ }
+{
+    match made {
+        Outcome::Written(length) => {
+            if length <= out.len() {
+                &out[..length]
+            } else {
+                out
+            }
+        }
+        Outcome::Short => &out[..0],
+    }
 }
