@@ -124,6 +124,19 @@ module _ (code : Code) where
           let l = h (record { place = p; stack = s; row = w; steps = suc (x .steps) }) in
           record { steps = omega (arith, l .steps); words = l .words ∙ k .words }
 
+pub handle-steps : (code : List Instruction) (w : List ℤ) → handle code w .steps ≤ length code
+unfolding handle
+handle-steps code w = omega (arith, run-left (getElem? code) (length code) (start w) .steps)
+
+-- the same of a handler that a space holds
+pub handleSpace-steps : (space : List ℤ) (count : ℕ) (w : List ℤ) → handleSpace space count w .steps ≤ count
+unfolding handleSpace
+handleSpace-steps space count w = omega (arith, run-left (held space count) count (start w) .steps)
+
+pub handle-words : (code : List Instruction) (w : List ℤ) → length (handle code w .row) ≡ length w
+unfolding handle
+handle-words code w = run-left (getElem? code) (length code) (start w) .words
+
 -- ════════════════════════════════════════════════════════════════════════════════════════════
 -- A run that does not fail
 -- ════════════════════════════════════════════════════════════════════════════════════════════
@@ -166,20 +179,7 @@ module _ (code : Code) where
             counted = l .counted;
           }
 
-pub handle-steps : (code : List Instruction) (w : List ℤ) → handle code w .steps ≤ length code
-unfolding handle
-handle-steps code w = omega (arith, run-left (getElem? code) (length code) (start w) .steps)
-
 pub handle-leads : (code : List Instruction) (w : List ℤ) → Finished (handle code w .outcome)
     → Leads (getElem? code) (start w) (handle code w)
 unfolding handle
 handle-leads code w f = run-leads (getElem? code) (length code) (start w) (omega arith) f
-
--- the same of a handler that a space holds
-pub handleSpace-steps : (space : List ℤ) (count : ℕ) (w : List ℤ) → handleSpace space count w .steps ≤ count
-unfolding handleSpace
-handleSpace-steps space count w = omega (arith, run-left (held space count) count (start w) .steps)
-
-pub handle-words : (code : List Instruction) (w : List ℤ) → length (handle code w .row) ≡ length w
-unfolding handle
-handle-words code w = run-left (getElem? code) (length code) (start w) .words

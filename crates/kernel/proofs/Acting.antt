@@ -12,7 +12,7 @@ use lib.ListN.{length, getD, set, getElem?}
 use lib.Seq.{set-out}
 use mir.Syntax.{w64}
 use mir.Val.{SFits}
-use lib.Dec.{ltb, eqb, eqb·suc-zero}
+use lib.Dec.{ltb, eqb}
 use borrow.Author.Tests.{lt-ltb, le-ltb, ltb-true, ltb-false, eqb-true, eqb-false}
 use Rattle.word.specs.declared.number.Index.{Index}
 use Rattle.word.specs.declared.number.Index.the-variants as Index
