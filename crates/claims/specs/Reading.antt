@@ -1,5 +1,5 @@
--- Document 01's twelve starred readings, R1 to R12, and what they leave open: what is asked of the tag engine and of the page, and what each
--- must give. proofs/Readings.antt computes them.
+-- Document 01's twelve starred readings, R1 to R12, and what they leave open: what is asked of the tag engine and of the page, and what
+-- each must give. proofs/Readings.antt computes them.
 use Prim.Native.Nat.{ℕ, _^_, _*_, _-_}
 use mathlib.Core.List.{List, [], _∷_, _++_, map}
 use lib.IntN.{ℤ, pos, negsuc}
@@ -54,8 +54,8 @@ abbrev pub execute : Setting → Ended Tag
 execute s =
     let m : Memory = lentFor (cells (pos 7 ∷ s .c1 ∷ []) (pos 0 ∷ pos 1 ∷ [])) in
     let lines = zeros (s .room) in
-    tagged (encode (s .program)) standardBytes (s .row) (Lent.memory (m .program) (m .lent) (output lines lines)) (zeros (2 * 151)) (s .fuel)
-    .ended
+    let lent : Memory = Lent.memory (m .program) (m .lent) (output lines lines) in
+    tagged (encode (s .program)) standardBytes (s .row) lent (zeros (2 * 151)) (s .fuel) .ended
 
 abbrev pub ending : Answer → Memory → Given
 ending (Answer.Refused r) m = refused (r .code) (r .position)

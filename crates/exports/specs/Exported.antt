@@ -1,12 +1,18 @@
 -- What a call through the C interface gives back and what every lent word is at its return, for all arguments.
 use Prim.Native.Nat.{ℕ}
+use mathlib.Core.Path.{_≡_}
 use mathlib.Core.List.{List}
 use lib.IntN.{ℤ}
 use Rattle.engine.specs.Memory.{Memory}
-use Rattle.engine.specs.Ended.{Ended}
+use Rattle.engine.specs.Ended.{Ended, directly}
+use Rattle.word.specs.Lay.{laid}
+use Rattle.policy.specs.Evaluate.{evaluate}
+use Rattle.policy.specs.Read.{readTable}
+use Rattle.handler.specs.Space.{kernelWords}
+use Rattle.handler.specs.Claim.{Handles}
 use Rattle.plain.specs.Plain.{plain}
 use Rattle.tagging.specs.Consult.{Tag}
-use Rattle.tagged.specs.Tagged.{Left, tagged, Promises}
+use Rattle.tagged.specs.Tagged.{Left, tagged}
 use Rattle.exports.specs.declared.result.LuvrodanResult.{LuvrodanResult}
 use Rattle.report.specs.Page.{pageAnswer, pageOut}
 use Rattle.exports.specs.declared.result.LuvrodanPageResult.{LuvrodanPageResult}
@@ -21,9 +27,13 @@ pub record PlainLeft : Type 0 where
 abbrev pub plainLeft : LuvrodanResult → Memory → PlainLeft
 plainLeft r m = record { result = r; memory = m }
 
+-- of what an engine without rule memory leaves
+abbrev pub exportedEnd : Ended Unit → PlainLeft
+exportedEnd e = plainLeft (resultOf (e .answer) 0 0) (e .memory)
+
 -- of the sheet, the lent runs and the allowance
 unfoldable pub exportedPlain : List ℕ → Memory → ℕ → PlainLeft
-exportedPlain sheet m fuel = let e : Ended Unit = plain sheet m fuel in plainLeft (resultOf (e .answer) 0 0) (e .memory)
+exportedPlain sheet m fuel = exportedEnd (plain sheet m fuel)
 
 -- the result, the lent rule memory, the lent runs that both engines have, and the handler space
 pub record TaggedLeft : Type 0 where
@@ -42,10 +52,29 @@ exportedTagged sheet bytes lent m handler fuel =
     let e : Ended Tag = x .ended in
     taggedLeft (resultOf (e .answer) (e .ruler .faults) (e .ruler .kernelSteps)) (leftRow (e .ruler .row) lent) (e .memory) (x .handler)
 
--- what is promised of that call of the tag engine, over the table that the bytes are
-abbrev pub ExportedPromises : List ℕ → List ℕ → List ℤ → Memory → List ℤ → ℕ → Type 0
-ExportedPromises sheet bytes lent m handler fuel =
-    Promises sheet bytes m handler fuel (tagged sheet bytes (givenRow lent) m handler fuel)
+-- without the counts
+abbrev pub uncounted : LuvrodanResult → LuvrodanResult
+uncounted r =
+    record {
+      refusal = r .refusal;
+      position = r .position;
+      stop = r .stop;
+      steps = r .steps;
+      pc = r .pc;
+      label = r .label;
+      depth = r .depth;
+      lines = r .lines;
+      faults = 0;
+      kernel = 0;
+    }
+
+-- what is promised where the bytes are a table and nothing was refused: its handler, as asked, lies in its space, and all but the counts is
+-- that of reading the table directly
+abbrev pub ExportedPromises : List ℕ → List ℕ → Memory → List ℤ → ℕ → TaggedLeft → Type 0
+ExportedPromises sheet bytes m handler fuel x =
+    Handles (readTable bytes) (λ t code. x .result .refusal ≡ 0
+    → (x .handler ≡ laid (kernelWords code) handler)
+    × (plainLeft (uncounted (x .result)) (x .memory) ≡ exportedEnd (directly (evaluate t) sheet m fuel)))
 
 -- the result and the lent bytes
 pub record PageLeft : Type 0 where

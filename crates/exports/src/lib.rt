@@ -70,10 +70,14 @@ pub extern "C" fn luvrodan_tagged(
         (memory (now (program .entry)) (lent (now (stack .entry)) (cells (now (values .entry)) (now (labels .entry))))
         (output (now (numbers .entry)) (now («line_labels» .entry))))
         (now (handler .entry)) fuel ⌝ }
-    ensures rules { λ _. ⌜ ExportedPromises (now (sheet .entry)) (now (table .entry)) (now («rule_memory» .entry))
+    ensures rules { λ r. ⌜ ExportedPromises (now (sheet .entry)) (now (table .entry))
         (memory (now (program .entry)) (lent (now (stack .entry)) (cells (now (values .entry)) (now (labels .entry))))
         (output (now (numbers .entry)) (now («line_labels» .entry))))
-        (now (handler .entry)) fuel ⌝ }
+        (now (handler .entry)) fuel
+        (taggedLeft r (now («rule_memory» .exit))
+        (memory (now (program .exit)) (lent (now (stack .exit)) (cells (now (values .exit)) (now (labels .exit))))
+        (output (now (numbers .exit)) (now («line_labels» .exit))))
+        (now (handler .exit))) ⌝ }
 {
     let cache = row::given(rule_memory);
     let tagged = tagged::execute(

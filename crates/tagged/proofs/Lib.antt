@@ -5,3 +5,4 @@ pub mod Following
 pub mod Starting
 pub mod Accepted
 pub mod Reading
+pub mod Numbers

@@ -13,7 +13,7 @@ returns c =
     let x = e .execute .ensures in (
       tagged-left _ _ _ _ _ _ _ _ (e .execute .result) (g .given .result .words) _ _
           (c .of-answer .ensures) (g .given .ensures) (l .leave .ensures) (x .0),
-      promises-left _ _ _ _ _ _ _ _ (g .given .ensures) (x .0) (x .1),
+      promises-left _ _ _ _ _ _ _ _ (e .execute .result) _ (c .of-answer .ensures) (x .0) (x .1),
     )
 
 pub luvrodan-tagged-spec : {M : Type 1} → statement M
