@@ -1,5 +1,5 @@
-//! Prints the page of a sheet that adds a public and a secret number, for a reader who is cleared for owner 0.
-//! docs/MANUAL.md has the bytes of jobs.
+//! Prints the page of a sheet that adds a public and a secret number, for a reader who is cleared for owner 0. Its last
+//! line, `end 00000000`, says that nothing is missing. docs/MANUAL.md has the bytes of jobs.
 //!
 //!     rt staticlib exports
 //!     LUVRODAN_ARCHIVE=target/staticlib/libexports.a cargo run --offline --release -p luvrodan --example embed
@@ -37,9 +37,10 @@ fn main() -> Result<(), Refusal> {
     let report = machine.run_plain(&SHEET, 1000)?;
     let mut lines = String::new();
     for line in machine.view(READER) {
-        lines += &format!("{} {:08x}\n", line.number, line.label);
+        lines += &format!("{line}\n");
     }
     assert_eq!(lines.as_bytes(), page);
+    assert!(machine.view_is_whole(READER));
     eprintln!("{} after {} steps", report.stop, report.steps);
     Ok(())
 }

@@ -30,7 +30,7 @@ extern "C" {
 #define LUVRODAN_RULE_MEMORY_WORDS 7     /* code, P, L1, L2, L3, new place label, result label */
 #define LUVRODAN_PROGRAM_WORDS 8192      /* enough for any sheet: two words a command: code, operand or 0 */
 #define LUVRODAN_HANDLER_WORDS 16384     /* enough for any handler: two words a command */
-#define LUVRODAN_PAGE_LIMIT 30720        /* bytes of the longest page: 1,024 lines of at most 30 bytes */
+#define LUVRODAN_PAGE_LIMIT 30720        /* bytes of the longest page: 1,024 lines, end line included, of at most 30 */
 
 /* Refusals (luvrodan_result.refusal). */
 enum {
@@ -48,7 +48,7 @@ enum {
 
 /* Stops (luvrodan_result.stop, where refusal is 0). */
 enum {
-    LUVRODAN_STOP_END = 0,               /* the place equals the number of commands */
+    LUVRODAN_STOP_END = 0,               /* the place equals the number of commands, and the end line is written */
     LUVRODAN_STOP_FUEL = 1,              /* the allowance is spent */
     LUVRODAN_STOP_PLACE = 2,             /* the place is outside the sheet */
     LUVRODAN_STOP_VALUE = 3,             /* a value is needed and none is there */
@@ -56,7 +56,13 @@ enum {
     LUVRODAN_STOP_ADDRESS = 5,           /* an address outside the cells */
     LUVRODAN_STOP_DENIED = 6,            /* the rule does not allow the command */
     LUVRODAN_STOP_STACK = 7,             /* the stack is full */
-    LUVRODAN_STOP_OUTPUT = 8             /* the output space is full */
+    LUVRODAN_STOP_OUTPUT = 8             /* the output space is full: for an Output, or at the end for the end line */
+};
+
+/* Kinds of lines (the words of kinds). */
+enum {
+    LUVRODAN_LINE_NUMBER = 0,            /* a number that an Output wrote */
+    LUVRODAN_LINE_END = 1                /* the end of the sheet: the last line, its number 0, its label P */
 };
 
 /*
@@ -72,7 +78,7 @@ typedef struct {
     int64_t pc;                          /* number of the next command */
     uint64_t pc_label;                   /* the place's label P */
     uint64_t depth;                      /* entries on the stack */
-    uint64_t lines;                      /* lines written */
+    uint64_t lines;                      /* lines written, the end line among them */
     uint64_t faults;
     uint64_t kernel_steps;
 } luvrodan_result;
@@ -81,14 +87,19 @@ typedef struct {
  * Runs a sheet under the standard rules.
  *
  * values, labels: the cells; Store changes them. program: two words a command. stack: 768 words. numbers,
- * line_labels: the output space, a number word and a label word for each line; the shorter sets how many lines fit.
+ * line_labels, kinds: the output space, a number word, a label word and a kind word for each line; the shortest sets
+ * how many lines fit.
+ *
+ * A run that comes to the end of the sheet writes an end line and is stop 0; the line is no step, needs no allowance
+ * and asks no rule. Without output space for it the run is stop 8, also where the allowance is spent: its place is the
+ * number of commands, and all else is as it was. So the last line is an end line exactly if the run is stop 0.
  *
  * Refusals, in this order: 1, 2, 3 (sheet), 4, 5 (cells), 8 at 1 or 2 (spaces), 9 (allowance). A refused call
  * changes no lent word.
  *
  * After an accepted run program holds the sheet's commands from its start; stack the entries, bottom first, with
- * dropped entries above as they were; numbers and line_labels the lines from their start; values and labels the
- * cells. All other lent words are as they came.
+ * dropped entries above as they were; numbers, line_labels and kinds the lines from their start; values and labels
+ * the cells. All other lent words are as they came.
  */
 luvrodan_result luvrodan_plain(const uint8_t *sheet, size_t sheet_length,
                                int64_t *values, size_t value_count,
@@ -97,6 +108,7 @@ luvrodan_result luvrodan_plain(const uint8_t *sheet, size_t sheet_length,
                                int64_t *stack, size_t stack_words,
                                int64_t *numbers, size_t number_count,
                                int64_t *line_labels, size_t line_label_count,
+                               int64_t *kinds, size_t kind_count,
                                uint64_t fuel);
 
 /*
@@ -122,6 +134,7 @@ luvrodan_result luvrodan_tagged(const uint8_t *sheet, size_t sheet_length,
                                 int64_t *handler, size_t handler_words,
                                 int64_t *numbers, size_t number_count,
                                 int64_t *line_labels, size_t line_label_count,
+                                int64_t *kinds, size_t kind_count,
                                 uint64_t fuel);
 
 /* How many kernel commands the handler of this table has, 1 to 8,192; 0 where the bytes are no rule table. */

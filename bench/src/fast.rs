@@ -1,7 +1,7 @@
 //! The fastest interpreter of the plain machine that was to hand: commands decoded to an enum, a Push fused with what
 //! follows it, packed entries, no index tested twice. It allocates, and lays its memory out only at the end.
 
-use crate::safe::{check_fuel, check_plain, load_sheet, FRAME, VALUE};
+use crate::safe::{check_fuel, check_plain, load_sheet, END, FRAME, NUMBER, VALUE};
 use model::engine::{Lent, Report};
 use model::machine::{Stop, STACK};
 use model::{Label, Refusal};
@@ -98,13 +98,16 @@ pub fn plain(sheet: &[u8], lent: &mut Lent, fuel: u64) -> Result<Report, Refusal
     Ok(run(&ops, lent, fuel))
 }
 
+#[inline(never)]
 fn run(ops: &[Op], lent: &mut Lent, fuel: u64) -> Report {
     let mut cells: Vec<Cell> = (lent.values.iter().zip(&lent.labels))
         .map(|(&number, &label)| Cell { number, label: label as u32 })
         .collect();
     let cells = &mut cells[..];
     let mut stack = [Entry { number: 0, label: 0, frame: false }; STACK];
-    let room = lent.numbers.len().min(lent.line_labels.len());
+    let room = lent.room();
+    let (numbers, line_labels, kinds) =
+        (&mut lent.numbers[..room], &mut lent.line_labels[..room], &mut lent.kinds[..room]);
     let count = ops.len() as u64;
     let (mut pc, mut label, mut depth, mut lines, mut left) = (0i64, 0u32, 0usize, 0usize, fuel);
     // Entries below this were written.
@@ -144,6 +147,13 @@ fn run(ops: &[Op], lent: &mut Lent, fuel: u64) -> Report {
     let stop = loop {
         if pc as u64 >= count {
             if pc as u64 == count {
+                if lines >= room {
+                    break Stop::OutputFull;
+                }
+                numbers[lines] = 0;
+                line_labels[lines] = label.into();
+                kinds[lines] = END;
+                lines += 1;
                 break Stop::End;
             }
             break if left == 0 { Stop::AllowanceSpent } else { Stop::PlaceOutside };
@@ -243,8 +253,9 @@ fn run(ops: &[Op], lent: &mut Lent, fuel: u64) -> Report {
                 if lines >= room {
                     break Stop::OutputFull;
                 }
-                lent.numbers[lines] = entry!(0).number;
-                lent.line_labels[lines] = (entry!(0).label | label).into();
+                numbers[lines] = entry!(0).number;
+                line_labels[lines] = (entry!(0).label | label).into();
+                kinds[lines] = NUMBER;
                 lines += 1;
                 depth -= 1;
                 pc += 1;

@@ -2,7 +2,7 @@
 //! memory, which is made anew before each run, outside the time. Processor time is measured, the best of several runs
 //! counts, and the runs of one workload take turns, so that a busy machine slows all of them alike.
 
-use bench::workloads::{all, idle, walk, Workload};
+use bench::workloads::{all, berth, idle, walk, Workload};
 use bench::{fast, safe, tags};
 use model::engine::{Lent, Report};
 use model::rules::STANDARD;
@@ -227,15 +227,15 @@ fn print_ratios(tables: &[(&str, Vec<Measured>)]) {
     }
 }
 
-/// Nanoseconds of the best of several runs of a start, repeated within each run.
-fn start_time(contestant: &Contestant, sheet: &[u8], lent: &Lent) -> f64 {
+/// Nanoseconds of the best of several runs of a sheet that is over soon, repeated within each run.
+fn short_time(contestant: &Contestant, sheet: &[u8], lent: &Lent, fuel: u64) -> f64 {
     const REPEATS: usize = 200;
     let mut lent = lent.clone();
     let mut best = f64::INFINITY;
     for _ in 0..ROUNDS {
         let began = now();
         for _ in 0..REPEATS {
-            black_box((contestant.run)(black_box(sheet), &mut lent, 0));
+            black_box((contestant.run)(black_box(sheet), &mut lent, fuel));
         }
         best = best.min((now() - began) / REPEATS as f64);
     }
@@ -271,15 +271,21 @@ fn print_growth(handler: &[i64], contestants: &[Contestant]) {
     for commands in [16, 256, 4096] {
         let workload = Workload { sheet: idle(commands), ..walk(2) };
         let lent = workload.lent(handler);
-        let time = |contestant: &Contestant| start_time(contestant, &workload.sheet, &lent) / commands as f64;
+        let time =
+            |contestant: &Contestant| short_time(contestant, &workload.sheet, &lent, 0) / commands as f64;
         row(format!("{commands} commands"), contestants.iter().map(time).collect());
     }
     header("start with no step: ns/cell");
     for cells in [32, 1024] {
-        let lent = walk(cells).lent(handler);
-        let time = |contestant: &Contestant| start_time(contestant, &[], &lent) / cells as f64;
+        let lent = Workload { lines: 1, ..walk(cells) }.lent(handler);
+        let time = |contestant: &Contestant| short_time(contestant, &[], &lent, 0) / cells as f64;
         row(format!("{cells} cells"), contestants.iter().map(time).collect());
     }
+    header("a run to its end line: ns");
+    let berth = berth();
+    let lent = berth.lent(handler);
+    let time = |contestant: &Contestant| short_time(contestant, &berth.sheet, &lent, FUEL);
+    row("berth: 18 steps, 4 lines".into(), contestants.iter().map(time).collect());
 }
 
 /// Microseconds from start to end of a program, the best of many, with a file as its standard input.

@@ -1,5 +1,5 @@
 //! A straightforward interpreter in safe Rust on the engines' own layout: two words a command, three a stack entry,
-//! cells and lines as two runs. Also all checks before the first step.
+//! cells as two runs, lines as three. Also all checks before the first step.
 
 use model::engine::{Lent, Report, ALLOWANCE, CELLS};
 use model::machine::{Stop, STACK};
@@ -8,6 +8,10 @@ use model::{Label, Refusal};
 
 pub const VALUE: i64 = 0;
 pub const FRAME: i64 = 1;
+
+/// Kinds of lines.
+pub const NUMBER: i64 = 0;
+pub const END: i64 = 1;
 
 /// Checks a sheet: how many commands it has.
 pub fn check_sheet(sheet: &[u8]) -> Result<usize, Refusal> {
@@ -102,12 +106,21 @@ fn put(stack: &mut [i64], index: usize, kind: i64, number: i64, label: i64) {
     stack[3 * index..3 * index + 3].copy_from_slice(&[kind, number, label]);
 }
 
+// Not inlined, here and in the other interpreters: a loop's speed would depend, up to threefold, on the code around it.
+#[inline(never)]
 fn run(count: usize, lent: &mut Lent, fuel: u64) -> Report {
-    let Lent { values, labels, program, stack, numbers, line_labels, .. } = lent;
-    let room = numbers.len().min(line_labels.len());
+    let room = lent.room();
+    let Lent { values, labels, program, stack, numbers, line_labels, kinds, .. } = lent;
     let (mut pc, mut label, mut depth, mut lines, mut steps) = (0i64, 0i64, 0usize, 0usize, 0u64);
     let stop = loop {
         if pc == count as i64 {
+            if lines >= room {
+                break Stop::OutputFull;
+            }
+            numbers[lines] = 0;
+            line_labels[lines] = label;
+            kinds[lines] = END;
+            lines += 1;
             break Stop::End;
         }
         if steps == fuel {
@@ -150,6 +163,7 @@ fn run(count: usize, lent: &mut Lent, fuel: u64) -> Report {
                 let top = 3 * (depth - 1);
                 numbers[lines] = stack[top + 1];
                 line_labels[lines] = stack[top + 2] | label;
+                kinds[lines] = NUMBER;
                 lines += 1;
                 depth -= 1;
                 pc += 1;

@@ -1,7 +1,9 @@
 //! A tag engine in safe Rust: the rule memory before every command, and the handler's words on the engines' layout
 //! run by a small kernel at each fault.
 
-use crate::safe::{check_cells, check_fuel, check_sheet, check_spaces, load_sheet, FRAME, VALUE};
+use crate::safe::{
+    check_cells, check_fuel, check_sheet, check_spaces, load_sheet, END, FRAME, NUMBER, VALUE,
+};
 use model::engine::{Lent, Report};
 use model::machine::{Stop, STACK};
 use model::rules::Table;
@@ -30,6 +32,7 @@ pub fn tagged(
 }
 
 /// The kernel: whether it returned, and its steps.
+#[inline(never)]
 fn handle(handler: &[i64], memory: &mut [i64; 7]) -> (bool, u64) {
     let mut stack = [0i64; 65];
     let (mut pc, mut depth, mut steps) = (0usize, 0usize, 0u64);
@@ -113,14 +116,22 @@ fn needs(code: i64, stack: &[i64], depth: usize, labels: &[i64]) -> Result<[i64;
     })
 }
 
+#[inline(never)]
 fn run(count: usize, lent: &mut Lent, fuel: u64) -> Report {
-    let Lent { values, labels, rule_memory, program, stack, handler, numbers, line_labels } = lent;
-    let room = numbers.len().min(line_labels.len());
+    let room = lent.room();
+    let Lent { values, labels, rule_memory, program, stack, handler, numbers, line_labels, kinds } = lent;
     let (mut pc, mut label, mut depth, mut lines, mut steps) = (0i64, 0i64, 0usize, 0usize, 0u64);
     let (mut faults, mut kernel_steps) = (0, 0);
     let mut memory: [i64; 7] = rule_memory[..].try_into().expect("the rule memory was accepted");
     let stop = loop {
         if pc == count as i64 {
+            if lines >= room {
+                break Stop::OutputFull;
+            }
+            numbers[lines] = 0;
+            line_labels[lines] = label;
+            kinds[lines] = END;
+            lines += 1;
             break Stop::End;
         }
         if steps == fuel {
@@ -166,6 +177,7 @@ fn run(count: usize, lent: &mut Lent, fuel: u64) -> Report {
                 }
                 numbers[lines] = stack[top + 1];
                 line_labels[lines] = result;
+                kinds[lines] = NUMBER;
                 lines += 1;
                 depth -= 1;
             }

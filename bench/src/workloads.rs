@@ -22,9 +22,13 @@ pub struct Lua {
 }
 
 impl Workload {
-    /// Fresh memory for a run, the handler's words in place.
+    /// Fresh memory for a run, the handler's words in place. The output space is written to once, so that the time does
+    /// not hold the system's work of giving its pages.
     pub fn lent(&self, handler: &[i64]) -> Lent {
         let mut lent = Lent::roomy(&self.cells, self.lines);
+        for run in [&mut lent.numbers, &mut lent.line_labels, &mut lent.kinds] {
+            run.fill(-7);
+        }
         lent.handler = handler.to_vec();
         lent
     }
@@ -136,6 +140,22 @@ fn mix() -> Workload {
 
 pub fn all() -> Vec<Workload> {
     vec![arithmetic(), walk(1024), calls(), hidden_branches(), lines(), mix()]
+}
+
+/// The berth of the README: a run of 18 steps that comes to its end, with room for its three lines and the end line.
+pub fn berth() -> Workload {
+    let sheet = [
+        &[Push(0), Load, Output][..],
+        &[Push(1), Load, Push(0), Load, Sub, Output],
+        &[Push(2), Load, Push(1), Load, Push(0), Load, Sub, Sub, Output],
+    ];
+    Workload {
+        name: "berth",
+        sheet: encode(&sheet.concat()),
+        cells: vec![Atom { number: 412, label: 0 }, hidden(-985), Atom { number: 1180, label: 2 }],
+        lines: 4,
+        lua: None,
+    }
 }
 
 /// A sheet of so many commands that does nothing.

@@ -46,7 +46,8 @@ pub enum Refusal {
     Allowance,
 }
 
-/// How an accepted run ended.
+/// How an accepted run ended. `End` is the sheet's end with its line written; without room for that line it is
+/// `OutputFull`.
 #[derive(Clone, Copy, Debug, PartialEq, Eq)]
 pub enum Stop {
     End = 0,
@@ -69,6 +70,7 @@ pub struct Report {
     pub place: i64,
     pub place_label: u32,
     pub depth: usize,
+    /// Lines written, the end line among them.
     pub lines: usize,
     pub faults: u64,
     pub kernel_steps: u64,

@@ -9,7 +9,7 @@ mod machine;
 pub mod sys;
 
 pub use answer::{Refusal, Report, Space, Stop};
-pub use machine::{Atom, Entry, Machine};
+pub use machine::{Atom, Entry, Kind, Line, Machine};
 
 /// Bytes of the longest page.
 pub const PAGE_LIMIT: usize = sys::PAGE_LIMIT;
@@ -43,9 +43,11 @@ pub struct Lent<'a> {
     pub program: &'a mut [i64],
     /// 256 entries of three words.
     pub stack: &'a mut [i64],
-    /// The lines' numbers and labels; the shorter run sets how many fit.
+    /// The lines' numbers, labels and kinds ([`sys::LINE_NUMBER`], [`sys::LINE_END`]); the shortest run sets how many
+    /// fit, the end line included.
     pub numbers: &'a mut [i64],
     pub line_labels: &'a mut [i64],
+    pub kinds: &'a mut [i64],
 }
 
 /// What the tag engine is lent besides.
@@ -87,6 +89,8 @@ pub fn plain_raw(sheet: &[u8], lent: Lent, fuel: u64) -> sys::RawResult {
             lent.numbers.len(),
             lent.line_labels.as_mut_ptr(),
             lent.line_labels.len(),
+            lent.kinds.as_mut_ptr(),
+            lent.kinds.len(),
             fuel,
         )
     }
@@ -117,6 +121,8 @@ pub fn tagged_raw(sheet: &[u8], lent: Lent, tags: Tags, fuel: u64) -> sys::RawRe
             lent.numbers.len(),
             lent.line_labels.as_mut_ptr(),
             lent.line_labels.len(),
+            lent.kinds.as_mut_ptr(),
+            lent.kinds.len(),
             fuel,
         )
     }

@@ -1,12 +1,39 @@
 //! A machine that owns its memory.
 
-use crate::{handler_count, plain, tagged, Lent, Refusal, Report, Tags, RULE_MEMORY_WORDS};
+use crate::{handler_count, plain, sys, tagged, Lent, Refusal, Report, Tags, RULE_MEMORY_WORDS};
+use std::fmt;
 
 /// A number with a label, the set of owners 0 to 31 by bits.
 #[derive(Clone, Copy, Debug, PartialEq, Eq)]
 pub struct Atom {
     pub number: i64,
     pub label: u32,
+}
+
+/// What a line says.
+#[derive(Clone, Copy, Debug, PartialEq, Eq)]
+pub enum Kind {
+    /// A number that an Output wrote.
+    Number,
+    /// That the run came to the end of the sheet.
+    End,
+}
+
+/// A line of a run, shown as `page` prints it. An end line's number is 0, its label that of the place.
+#[derive(Clone, Copy, Debug, PartialEq, Eq)]
+pub struct Line {
+    pub kind: Kind,
+    pub number: i64,
+    pub label: u32,
+}
+
+impl fmt::Display for Line {
+    fn fmt(&self, out: &mut fmt::Formatter) -> fmt::Result {
+        match self.kind {
+            Kind::Number => write!(out, "{} {:08x}", self.number, self.label),
+            Kind::End => write!(out, "end {:08x}", self.label),
+        }
+    }
 }
 
 /// A stack entry: a value, or the frame that a Call left.
@@ -27,13 +54,14 @@ pub struct Machine {
     handler: Vec<i64>,
     numbers: Vec<i64>,
     line_labels: Vec<i64>,
+    kinds: Vec<i64>,
     rule_memory: [i64; RULE_MEMORY_WORDS],
     depth: usize,
     lines: usize,
 }
 
 impl Machine {
-    /// A machine with these cells and room for so many lines.
+    /// A machine with these cells and room for so many lines, of which the end line is one.
     pub fn new(cells: &[Atom], lines: usize) -> Machine {
         Machine {
             values: cells.iter().map(|cell| cell.number).collect(),
@@ -43,6 +71,7 @@ impl Machine {
             handler: Vec::new(),
             numbers: vec![0; lines],
             line_labels: vec![0; lines],
+            kinds: vec![0; lines],
             rule_memory: [0; RULE_MEMORY_WORDS],
             depth: 0,
             lines: 0,
@@ -84,6 +113,7 @@ impl Machine {
             stack: &mut self.stack,
             numbers: &mut self.numbers,
             line_labels: &mut self.line_labels,
+            kinds: &mut self.kinds,
         };
         (lent, &mut self.rule_memory, &mut self.handler)
     }
@@ -98,14 +128,22 @@ impl Machine {
         atoms(&self.values, &self.labels)
     }
 
-    /// The lines of the last accepted run.
-    pub fn lines(&self) -> impl Iterator<Item = Atom> + '_ {
-        atoms(&self.numbers[..self.lines], &self.line_labels)
+    /// The lines of the last accepted run. Where it came to the end of the sheet the last one says so.
+    pub fn lines(&self) -> impl Iterator<Item = Line> + '_ {
+        let kinds = self.kinds[..self.lines].iter().map(|&word| kind(word));
+        let atoms = atoms(&self.numbers, &self.line_labels);
+        kinds.zip(atoms).map(|(kind, Atom { number, label })| Line { kind, number, label })
     }
 
     /// The lines of the last accepted run that a reader who is cleared for this set of owners may see.
-    pub fn view(&self, set: u32) -> impl Iterator<Item = Atom> + '_ {
+    pub fn view(&self, set: u32) -> impl Iterator<Item = Line> + '_ {
         self.lines().filter(move |line| line.label & !set == 0)
+    }
+
+    /// Whether such a reader sees the end line, and so knows that all lines for them are there. Where not, the run was
+    /// cut, or it ended at a place that they are not cleared for.
+    pub fn view_is_whole(&self, set: u32) -> bool {
+        self.view(set).any(|line| line.kind == Kind::End)
     }
 
     /// The stack of the last accepted run, bottom first.
@@ -125,6 +163,14 @@ impl Machine {
 
     pub fn set_rule_memory(&mut self, words: [i64; RULE_MEMORY_WORDS]) {
         self.rule_memory = words;
+    }
+}
+
+fn kind(word: i64) -> Kind {
+    match word {
+        sys::LINE_NUMBER => Kind::Number,
+        sys::LINE_END => Kind::End,
+        _ => panic!("kind {word} is not of this interface"),
     }
 }
 

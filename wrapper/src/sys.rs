@@ -3,6 +3,10 @@
 /// Bytes of the longest page.
 pub const PAGE_LIMIT: usize = 30_720;
 
+/// Kinds of lines.
+pub const LINE_NUMBER: i64 = 0;
+pub const LINE_END: i64 = 1;
+
 #[repr(C)]
 #[derive(Clone, Copy, Debug, PartialEq, Eq)]
 pub struct RawResult {
@@ -41,6 +45,8 @@ extern "C" {
         number_count: usize,
         line_labels: *mut i64,
         line_label_count: usize,
+        kinds: *mut i64,
+        kind_count: usize,
         fuel: u64,
     ) -> RawResult;
 
@@ -65,6 +71,8 @@ extern "C" {
         number_count: usize,
         line_labels: *mut i64,
         line_label_count: usize,
+        kinds: *mut i64,
+        kind_count: usize,
         fuel: u64,
     ) -> RawResult;
 

@@ -1,8 +1,8 @@
 //! The wrapper's own part: names of refusals and stops, owned memory, pages.
 
 use luvrodan::{
-    handler_count, page, page_into, plain, tagged, Atom, Entry, Lent, Machine, Refusal, ShortBuffer, Space,
-    Stop, Tags, PAGE_LIMIT, STANDARD_TABLE,
+    handler_count, page, page_into, plain, tagged, Atom, Entry, Kind, Lent, Line, Machine, Refusal,
+    ShortBuffer, Space, Stop, Tags, PAGE_LIMIT, STANDARD_TABLE,
 };
 
 const CELLS: [Atom; 2] = [Atom { number: 7, label: 0 }, Atom { number: 5, label: 1 }];
@@ -26,18 +26,45 @@ fn lines_and_cells() {
             _ => machine.run_tagged(&sheet, &STANDARD_TABLE, 100),
         }
         .unwrap();
-        assert_eq!((report.stop, report.steps, report.lines, report.depth), (Stop::End, 9, 2, 0));
+        assert_eq!((report.stop, report.steps, report.lines, report.depth), (Stop::End, 9, 3, 0));
         let lines: Vec<_> = machine.lines().collect();
-        assert_eq!(lines, [Atom { number: 12, label: 1 }, Atom { number: 7, label: 0 }]);
-        assert_eq!(machine.view(0).count(), 1);
+        let number = |number, label| Line { kind: Kind::Number, number, label };
+        assert_eq!(lines, [number(12, 1), number(7, 0), Line { kind: Kind::End, number: 0, label: 0 }]);
+        assert_eq!(view(&machine, 0), ["7 00000000", "end 00000000"]);
         assert_eq!(machine.cells().collect::<Vec<_>>(), CELLS);
     }
     assert_eq!(machine.rule_memory(), [4, 0, 0, -1, -1, 0, 0]);
 }
 
+/// A reader's lines as `page` prints them.
+fn view(machine: &Machine, set: u32) -> Vec<String> {
+    machine.view(set).map(|line| line.to_string()).collect()
+}
+
+#[test]
+fn whole_views() {
+    // After a branch on cell 1 the end, too, is for owner 0 only.
+    let sheet = sheet(&[&push(3), &[4], &push(1), &[6, 9, 1, 0]]);
+    let mut machine = Machine::new(&CELLS, 2);
+    machine.run_plain(&sheet, 5).unwrap();
+    assert_eq!(view(&machine, 1), ["3 00000000", "end 00000001"]);
+    assert_eq!(view(&machine, 0), ["3 00000000"]);
+    assert!(machine.view_is_whole(1) && !machine.view_is_whole(0));
+    // Cut by the allowance; by the room, at the end, also where the allowance is spent.
+    assert_eq!(machine.run_plain(&sheet, 4).unwrap().stop, Stop::AllowanceSpent);
+    assert!(!machine.view_is_whole(1));
+    let mut machine = Machine::new(&CELLS, 1);
+    for fuel in [5, 6] {
+        let report = machine.run_tagged(&sheet, &STANDARD_TABLE, fuel).unwrap();
+        assert_eq!((report.stop, report.steps, report.place, report.lines), (Stop::OutputFull, 5, 5, 1));
+        assert_eq!(view(&machine, 1), ["3 00000000"]);
+        assert!(!machine.view_is_whole(1));
+    }
+}
+
 #[test]
 fn stack_and_stops() {
-    let mut machine = Machine::new(&CELLS, 0);
+    let mut machine = Machine::new(&CELLS, 1);
     let call = sheet(&[&push(3), &push(4), &[10], &[3], &[1]]);
     let report = machine.run_plain(&call, 100).unwrap();
     assert_eq!((report.stop, report.place, report.depth), (Stop::ValueMissing, 4, 2));
@@ -51,6 +78,7 @@ fn stack_and_stops() {
     assert_eq!(stop(&[&push(2)[..], &[6]].concat(), 9), Stop::AddressOutside);
     assert_eq!(stop(&[&push(-1)[..], &[8]].concat(), 9), Stop::PlaceOutside);
     assert_eq!(stop(&[&push(-1)[..], &[4]].concat(), 9), Stop::OutputFull);
+    assert_eq!(stop(&[&push(-1)[..], &[4]].concat().repeat(2), 9), Stop::OutputFull);
     assert_eq!(stop(&push(1).repeat(257), 999), Stop::StackFull);
     let hidden = sheet(&[&push(1), &[6, 9, 1, 0], &push(7), &push(0), &[7]]);
     assert_eq!(stop(&hidden, 999), Stop::NotAllowed);
@@ -75,7 +103,7 @@ fn refusals() {
     assert_eq!((refusal.number(), refusal.place(), refusal.to_string()), (8, 3, "refused 8 3".into()));
 }
 
-/// Runs on lent memory with these lengths of program, stack and handler.
+/// Runs on lent memory with these lengths of program, stack and handler, without output space.
 fn lend(lengths: [usize; 3], label: i64) -> [Result<Stop, Refusal>; 2] {
     let [mut program, mut stack, mut handler] = lengths.map(|length| vec![9; length]);
     let (values, labels, rule_memory) = (&mut [1], &mut [label], &mut [0; 7]);
@@ -88,6 +116,7 @@ fn lend(lengths: [usize; 3], label: i64) -> [Result<Stop, Refusal>; 2] {
             stack: &mut stack,
             numbers: &mut [],
             line_labels: &mut [],
+            kinds: &mut [],
         },
         9,
     );
@@ -98,6 +127,7 @@ fn lend(lengths: [usize; 3], label: i64) -> [Result<Stop, Refusal>; 2] {
         stack: &mut stack,
         numbers: &mut [],
         line_labels: &mut [],
+        kinds: &mut [],
     };
     let tags = Tags { table: &STANDARD_TABLE, rule_memory, handler: &mut handler };
     [by_plain, tagged(&[3], lent, tags, 9)].map(|answer| answer.map(|report| report.stop))
@@ -118,7 +148,7 @@ fn lent_memory() {
 fn pages() {
     assert_eq!(page(&[]), b"job 0\n");
     assert_eq!(page(&[0x43, 0]), b"refused 2 0\n");
-    assert_eq!(page(&[&[0x43][..], &push(-5), &[4]].concat()), b"-5 00000000\n");
+    assert_eq!(page(&[&[0x43][..], &push(-5), &[4]].concat()), b"-5 00000000\nend 00000000\n");
     let mut buffer = vec![1; PAGE_LIMIT - 1];
     assert_eq!(page_into(&[], &mut buffer), Err(ShortBuffer));
     assert!(buffer.iter().all(|&byte| byte == 1));

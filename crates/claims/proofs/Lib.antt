@@ -3,6 +3,7 @@ pub mod Both
 pub mod Private
 pub mod Starts
 pub mod PagesPrivate
+pub mod PagesComplete
 pub mod Labels
 pub mod PagesRefused
 pub mod Readings

@@ -14,6 +14,7 @@ use Rattle.word.proofs.Bool.{never}
 use Rattle.label.specs.Label.{flows}
 use Rattle.machine.specs.Atom.{Line}
 use Rattle.machine.specs.Claim.{keep, view, OneStartsOther}
+use Rattle.engine.specs.declared.Ran as Engine
 use Rattle.engine.specs.declared.Answer.{Answer}
 use Rattle.engine.specs.declared.Answer.the-variants as Answer
 use Rattle.engine.specs.Memory.{Memory}
@@ -25,8 +26,8 @@ use Rattle.report.specs.Job.{Heard, Ending, sheet, readJob, sheetFrom, sheetOf}
 use Rattle.report.specs.Job as Job
 use Rattle.report.specs.Lines.{lineText, linesText}
 use Rattle.report.specs.Page.{zeros, lentFor, endFor, answerText, endedText, runText, readingText, pageOf, pageLimit}
-use Rattle.claims.specs.Privacy.{Ran, onTagged, linesIn}
-use Rattle.claims.specs.Pages.{readerOf, cellWordsOf, cellsGiven, answered, fateFrom, fateOf, Claim, Says, Unrun, Printed}
+use Rattle.claims.specs.Privacy.{Ran, onTagged, linesIn, Views}
+use Rattle.claims.specs.Pages.{readerOf, cellWordsOf, cellsGiven, answered, fateFrom, fateOf, Related, Claim, Says, Unrun, Printed}
 use Rattle.claims.specs.Pages as Pages
 use Rattle.claims.proofs.Private.{runs-private}
 use Rattle.claims.proofs.Starts.{texts, texts-starts}
@@ -50,10 +51,12 @@ lines-view S (l ∷ ls) = by (flows (l .label) S) (lines-view S ls)
 -- ════════════════════════════════════════════════════════════════════════════════════════════
 
 -- its page is the text of the lines that the tag engine's run left
-record Shown (h : Heard) (bytes : List ℕ) (page : List ℕ) : Type 0 where
-  lines : List Line
-  by : Ran bytes (cellsOf (cellWordsOf h)) lines
-  is : page ≡ linesText (h .reader) lines
+pub record Shown (h : Heard) (bytes : List ℕ) (page : List ℕ) : Type 0 where
+  pub ran : Engine.Ran
+  pub lines : List Line
+  pub stopped : endFor (cellWordsOf h) (h .allowance) bytes .ended .answer ≡ Answer.Stopped ran
+  pub by : Ran bytes (cellsOf (cellWordsOf h)) ran lines
+  pub is : page ≡ texts lineText (view (h .reader) lines)
 
 shown-run : (h : Heard) (bytes : List ℕ) → answered (endFor (cellWordsOf h) (h .allowance) bytes .ended .answer) ≡ Pages.ran
     → Shown h bytes (runText (cellWordsOf h) (h .allowance) (h .reader) bytes)
@@ -68,12 +71,14 @@ shown-run h bytes e =
     go (Answer.Refused r) u m handler d e = never (cc)
     go (Answer.Stopped ran) u m handler d e =
         record {
+          ran = ran;
           lines = linesIn ran m;
+          stopped = ap (λ (x : Left). x .ended .answer) d;
           by = onTagged (zeros 7) refl (lentFor (cellWordsOf h)) (zeros 302) (h .allowance) ran u m handler d;
-          is = refl;
+          is = lines-view (h .reader) (linesIn ran m);
         }
 
-shown : (job : List ℕ) → fateOf job ≡ Pages.ran → Shown (readJob job .heard) (sheetOf job) (pageOf job)
+pub shown : (job : List ℕ) → fateOf job ≡ Pages.ran → Shown (readJob job .heard) (sheetOf job) (pageOf job)
 unfolding fateOf pageOf
 shown job e = go (readJob job .ending) e
   where
@@ -86,18 +91,21 @@ shown job e = go (readJob job .ending) e
 -- The claims
 -- ════════════════════════════════════════════════════════════════════════════════════════════
 
-pub pages-private : Claim
-pages-private job₁ job₂ e₁ e₂ sheets readers alike =
+-- what holds of the texts of two views holds of two pages
+pub pages-related : (So : List Line → List Line → Type 0) → Views So → (To : List ℕ → List ℕ → Type 0)
+    → ((v w : List Line) → So v w → To (texts lineText v) (texts lineText w)) → Related To
+pages-related So views To text job₁ job₂ e₁ e₂ sheets readers alike =
     let s₁ = shown job₁ e₁ in
     let s₂ = shown job₂ e₂ in
     let S = readerOf job₁ in
-    let ran₂ = subst (λ (x : List ℕ). Ran x (cellsGiven job₂) (s₂ .lines)) (sym sheets) (s₂ .by) in
-    let views = runs-private S (sheetOf job₁) (cellsGiven job₁) (cellsGiven job₂) (s₁ .lines) (s₂ .lines) (s₁ .by) ran₂ alike in
-    let page₁ = s₁ .is ∙ lines-view S (s₁ .lines) in
-    let page₂ = s₂ .is ∙ ap (λ (S : ℕ). linesText S (s₂ .lines)) (sym readers) ∙ lines-view S (s₂ .lines) in
-    let starts = texts-starts lineText (view S (s₁ .lines)) (view S (s₂ .lines)) views in
-    subst (λ (p : List ℕ). OneStartsOther p (pageOf job₂)) (sym page₁)
-    (subst (λ (p : List ℕ). OneStartsOther (texts lineText (view S (s₁ .lines))) p) (sym page₂) starts)
+    let ran₂ = subst (λ (x : List ℕ). Ran x (cellsGiven job₂) (s₂ .ran) (s₂ .lines)) (sym sheets) (s₂ .by) in
+    let so = views S (sheetOf job₁) (cellsGiven job₁) (cellsGiven job₂) (s₁ .ran) (s₂ .ran) (s₁ .lines) (s₂ .lines) (s₁ .by) ran₂ alike in
+    let page₂ = s₂ .is ∙ ap (λ (S : ℕ). texts lineText (view S (s₂ .lines))) (sym readers) in
+    subst (λ (p : List ℕ). To p (pageOf job₂)) (sym (s₁ .is))
+    (subst (λ (p : List ℕ). To (texts lineText (view S (s₁ .lines))) p) (sym page₂) (text _ _ so))
+
+pub pages-private : Claim
+pages-private = pages-related OneStartsOther runs-private OneStartsOther (texts-starts lineText)
 
 unrun-answer : (reader : ℕ) (e : Ended Tag) → Says (endedText reader e) (answered (e .answer))
 unrun-answer reader e = go (e .answer)

@@ -15,12 +15,12 @@ module _ {A : Type 0} (text : A → List ℕ) where
   texts [] = []
   texts (x ∷ xs) = text x ++ texts xs
 
-  texts-append : (xs ys : List A) → texts (xs ++ ys) ≡ texts xs ++ texts ys
+  pub texts-append : (xs ys : List A) → texts (xs ++ ys) ≡ texts xs ++ texts ys
   texts-append [] ys = refl
   texts-append (x ∷ xs) ys =
       ap (λ (t : List ℕ). text x ++ t) (texts-append xs ys) ∙ sym (append-assoc (text x) (texts xs) (texts ys))
 
-  texts-start : (xs ys : List A) → Start xs ys → Start (texts xs) (texts ys)
+  pub texts-start : (xs ys : List A) → Start xs ys → Start (texts xs) (texts ys)
   texts-start xs ys e =
       let rest : List A = drop (length xs) ys in
       let whole : xs ++ rest ≡ ys = ap (λ (l : List A). l ++ rest) e ∙ take-append-drop (length xs) ys in

@@ -1,17 +1,22 @@
--- Demand 3 for pages: what the page of a job tells its reader. This file states it; proofs/PagesPrivate.antt and PagesRefused.antt show it.
+-- Demand 3 for pages: what the page of a job tells its reader. This file states it; proofs/PagesPrivate.antt, PagesComplete.antt and
+-- PagesRefused.antt show it.
 use Prim.Native.Nat.{ℕ, _<_, _≤_}
 use mathlib.Core.Path.{_≡_}
-use mathlib.Core.List.{List}
+use mathlib.Core.Logic.{_≢_, _⊎_}
+use mathlib.Core.Bool.{false}
+use mathlib.Core.List.{List, [], _++_}
 use lib.ListN.{length, drop, getD}
-use Rattle.machine.specs.Atom.{Atom}
-use Rattle.machine.specs.Claim.{Alike, OneStartsOther}
+use Rattle.label.specs.Label.{flows}
+use Rattle.machine.specs.Atom.{Atom, endLine}
+use Rattle.machine.specs.Claim.{Alike, Start, OneStartsOther}
 use Rattle.step.specs.Lent.{Cells, cells}
+use Rattle.engine.specs.declared.Ran as Engine
 use Rattle.engine.specs.declared.Answer.{Answer}
 use Rattle.engine.specs.declared.Answer.the-variants as Answer
 use Rattle.engine.specs.Layout.{cellsOf}
 use Rattle.report.specs.Job.{Heard, Ending, sheet, readJob, sheetOf}
 use Rattle.report.specs.Job as Job
-use Rattle.report.specs.Lines.{jobText, refusedText}
+use Rattle.report.specs.Lines.{jobText, refusedText, lineText}
 use Rattle.report.specs.Page.{endFor, pageOf, pageLimit, pageAnswer, pageOut, printedOf}
 
 -- what a job says
@@ -45,14 +50,44 @@ fateFrom job h (sheet start) = answered (endFor (cellWordsOf h) (h .allowance) (
 unfoldable pub fateOf : List ℕ → Fate
 fateOf job = fateFrom job (readJob job .heard) (readJob job .ending)
 
--- two jobs that are run, with the same sheet and reader's set and with cells that are alike for that set, whatever their allowances: of
--- the two pages one is the start of the other
-abbrev pub Claim : Type 0
-Claim =
+-- two jobs that are run, with the same sheet and reader's set and with cells that are alike for that set, whatever their allowances: so
+-- are the two pages
+abbrev pub Related : (List ℕ → List ℕ → Type 0) → Type 0
+Related So =
     (job₁ job₂ : List ℕ) → fateOf job₁ ≡ ran → fateOf job₂ ≡ ran →
     sheetOf job₁ ≡ sheetOf job₂ → readerOf job₁ ≡ readerOf job₂ →
     Alike (readerOf job₁) (cellsGiven job₁) (cellsGiven job₂) →
-    OneStartsOther (pageOf job₁) (pageOf job₂)
+    So (pageOf job₁) (pageOf job₂)
+
+-- one is the start of the other
+abbrev pub Claim : Type 0
+Claim = Related OneStartsOther
+
+-- the bytes of an end line, and a page whose last line is one
+abbrev pub endText : (label : ℕ) → List ℕ
+endText label = lineText (endLine label)
+
+abbrev pub Ends : List ℕ → Type 0
+Ends page = (before : List ℕ) × (label : ℕ) × (page ≡ before ++ endText label)
+
+-- what the end line is for, on pages: after it stands nothing; a page that ends in it is whole, so that the other is a start of it, and
+-- equal where that ends so too
+pub record Tells (p q : List ℕ) : Type 0 where
+  pub last : (before after : List ℕ) (label : ℕ) → p ≡ before ++ endText label ++ after → after ≡ []
+  pub start : Ends p → Start q p
+  pub equal : Ends p → Ends q → p ≡ q
+
+abbrev pub Complete : Type 0
+Complete = Related Tells
+
+-- and what its absence tells: the run met another stop than 0, or it ended at a place whose label is outside the reader's set
+abbrev pub answerTo : List ℕ → Answer
+answerTo job = let h : Heard = readJob job .heard in endFor (cellWordsOf h) (h .allowance) (sheetOf job) .ended .answer
+
+abbrev pub Cut : Type 0
+Cut =
+    (job : List ℕ) → fateOf job ≡ ran → (Ends (pageOf job) → ⊥) →
+    (r : Engine.Ran) → answerTo job ≡ Answer.Stopped r → (r .stop ≢ 0) ⊎ (flows (r .machine .label .0) (readerOf job) ≡ false)
 
 -- a job that is not run prints one line, which says so and nothing else
 abbrev pub Says : List ℕ → Fate → Type 0

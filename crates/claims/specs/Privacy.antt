@@ -1,5 +1,6 @@
--- Demand 3: what a reader of a set of owners sees of two whole runs, each on either engine, from starts that its engine accepts. A run is
--- what the engines' contracts say of it (`plain`, `tagged`). This file states it; proofs/Private.antt shows it.
+-- Demand 3: what a reader of a set of owners sees of two whole runs, each on either engine, from starts that its engine accepts; and what
+-- the end line tells him. A run is what the engines' contracts say of it (`plain`, `tagged`). This file states it; proofs/Private.antt
+-- shows it.
 use Prim.Native.Nat.{ℕ}
 use mathlib.Core.Path.{_≡_}
 use mathlib.Core.List.{List}
@@ -7,6 +8,7 @@ use lib.IntN.{ℤ}
 use lib.ListN.{length}
 use Rattle.machine.specs.Atom.{Atom, Line}
 use Rattle.machine.specs.Claim.{view, Alike, OneStartsOther}
+use Rattle.machine.specs.End.{Tells, Missing}
 use Rattle.engine.specs.declared.Ran as Engine
 use Rattle.engine.specs.declared.Answer.the-variants as Answer
 use Rattle.engine.specs.Memory.{Memory}
@@ -24,24 +26,38 @@ cellsIn m = cellsOf (m .lent .cells)
 abbrev pub linesIn : Engine.Ran → Memory → List Line
 linesIn ran m = linesOf (ran .machine .lines) (m .output)
 
--- a sheet was run, from which cells and with which lines: an engine accepted the start and the run met a stop. Of the lent memory, the
--- allowance and, on the tag engine, the rule memory of seven words and the handler space nothing is asked but that; its table is the
--- standard one
-pub data Ran (sheet : List ℕ) : List Atom → List Line → Type 0 where
+-- a sheet was run, from which cells, where it ended and with which lines: an engine accepted the start and the run met a stop. Of the lent
+-- memory, the allowance and, on the tag engine, the rule memory of seven words and the handler space nothing is asked but that; its table
+-- is the standard one
+pub data Ran (sheet : List ℕ) : List Atom → Engine.Ran → List Line → Type 0 where
   onPlain :
       (m : Memory) (fuel : ℕ) (ran : Engine.Ran) (after : Memory)
       → plain sheet m fuel ≡ ended (Answer.Stopped ran) tt after
-      → Ran sheet (cellsIn m) (linesIn ran after)
+      → Ran sheet (cellsIn m) ran (linesIn ran after)
   onTagged :
       (row : List ℤ) → length row ≡ 7
       → (m : Memory) (handler : List ℤ) (fuel : ℕ) (ran : Engine.Ran) (u : Tag) (after : Memory) (handler′ : List ℤ)
       → tagged sheet standardBytes row m handler fuel ≡ left (ended (Answer.Stopped ran) u after) handler′
-      → Ran sheet (cellsIn m) (linesIn ran after)
+      → Ran sheet (cellsIn m) ran (linesIn ran after)
 
--- for every set of owners, every sheet and any two runs of it from cells that are alike for the set, each on either engine: of the two
--- views one is the start of the other
+-- for every set of owners, every sheet and any two runs of it from cells that are alike for the set, each on either engine: so are the two
+-- views
+abbrev pub Views : (List Line → List Line → Type 0) → Type 0
+Views So =
+    (S : ℕ) (sheet : List ℕ) (cells₁ cells₂ : List Atom) (ran₁ ran₂ : Engine.Ran) (lines₁ lines₂ : List Line) →
+    Ran sheet cells₁ ran₁ lines₁ → Ran sheet cells₂ ran₂ lines₂ → Alike S cells₁ cells₂ →
+    So (view S lines₁) (view S lines₂)
+
+-- one is the start of the other
 abbrev pub Claim : Type 0
-Claim =
-    (S : ℕ) (sheet : List ℕ) (cells₁ cells₂ : List Atom) (lines₁ lines₂ : List Line) →
-    Ran sheet cells₁ lines₁ → Ran sheet cells₂ lines₂ → Alike S cells₁ cells₂ →
-    OneStartsOther (view S lines₁) (view S lines₂)
+Claim = Views OneStartsOther
+
+-- what the end line is for: one that has it is whole, and tells the other
+abbrev pub Complete : Type 0
+Complete = Views Tells
+
+-- and what its absence tells: the run met another stop than 0, or it ended at a place whose label is outside the set
+abbrev pub Cut : Type 0
+Cut =
+    (S : ℕ) (sheet : List ℕ) (cells : List Atom) (ran : Engine.Ran) (lines : List Line) →
+    Ran sheet cells ran lines → Missing S (view S lines) (ran .stop) (ran .machine .label .0)

@@ -1,5 +1,5 @@
--- Document 01's twelve starred readings, R1 to R12, and what they leave open: what is asked of the tag engine and of the page, and what
--- each must give. proofs/Readings.antt computes them.
+-- Document 01's twelve starred readings, R1 to R12, with request U1's end lines, and what they leave open: what is asked of the tag engine
+-- and of the page, and what each must give. proofs/Readings.antt computes them.
 use Prim.Native.Nat.{ℕ, _^_, _*_, _-_}
 use mathlib.Core.List.{List, [], _∷_, _++_, map}
 use lib.IntN.{ℤ, pos, negsuc}
@@ -7,7 +7,7 @@ use lib.ListN.{replicate}
 use Rattle.program.specs.declared.Command.{Command}
 use Rattle.program.specs.declared.Command.the-variants.{Add, Sub, Output, Push, Load, Store, Jump, Bnz, Call, Ret}
 use Rattle.program.specs.Encode.{encode}
-use Rattle.machine.specs.Atom.{Atom, Line}
+use Rattle.machine.specs.Atom.{Atom, Line, numberLine, endLine}
 use Rattle.machine.specs.Step.{atom}
 use Rattle.step.specs.Lent.{cells}
 use Rattle.engine.specs.declared.Answer.{Answer}
@@ -54,7 +54,7 @@ abbrev pub execute : Setting → Ended Tag
 execute s =
     let m : Memory = lentFor (cells (pos 7 ∷ s .c1 ∷ []) (pos 0 ∷ pos 1 ∷ [])) in
     let lines = zeros (s .room) in
-    let lent : Memory = Lent.memory (m .program) (m .lent) (output lines lines) in
+    let lent : Memory = Lent.memory (m .program) (m .lent) (output lines lines lines) in
     tagged (encode (s .program)) standardBytes (s .row) lent (zeros (2 * 151)) (s .fuel) .ended
 
 abbrev pub ending : Answer → Memory → Given
@@ -87,7 +87,11 @@ abbrev pub fact : Question → Given → Fact
 fact q g = record { asked = q; said = g }
 
 abbrev pub line : ℤ → ℕ → Line
-line n l = record { number = n; label = l }
+line n l = numberLine n l
+
+-- the end line alone, with the label of the place
+abbrev pub ends : ℕ → List Line
+ends p = endLine p ∷ []
 
 -- an empty rule memory, and output space and an allowance that suffice
 abbrev pub sufficing : List Command → ℤ → Setting
@@ -97,12 +101,12 @@ sufficing program c1 = record { program = program; c1 = c1; row = zeros 7; room 
 abbrev pub usual : List Command → Setting
 usual program = sufficing program (pos 5)
 
--- allowance 0; room for one line; a rule memory, on the empty sheet
-abbrev pub unpaid : List Command → Setting
-unpaid program = record { program = program; c1 = pos 5; row = zeros 7; room = 16; fuel = 0 }
+-- an allowance; room for so many lines; a rule memory, on the empty sheet
+abbrev pub paid : ℕ → List Command → Setting
+paid fuel program = record { program = program; c1 = pos 5; row = zeros 7; room = 16; fuel = fuel }
 
-abbrev pub narrow : List Command → Setting
-narrow program = record { program = program; c1 = pos 5; row = zeros 7; room = 1; fuel = 1_000_000 }
+abbrev pub narrow : (room fuel : ℕ) → List Command → Setting
+narrow room fuel program = record { program = program; c1 = pos 5; row = zeros 7; room = room; fuel = fuel }
 
 abbrev pub from : List ℤ → Setting
 from row = record { program = []; c1 = pos 5; row = row; room = 16; fuel = 1_000_000 }
@@ -142,6 +146,10 @@ lineSeven = 0x37 ∷ 0x20 ∷ 0x30 ∷ 0x30 ∷ 0x30 ∷ 0x30 ∷ 0x30 ∷ 0x30 
 abbrev pub lineTwelve : List ℕ
 lineTwelve = 0x31 ∷ 0x32 ∷ 0x20 ∷ 0x30 ∷ 0x30 ∷ 0x30 ∷ 0x30 ∷ 0x30 ∷ 0x30 ∷ 0x30 ∷ 0x31 ∷ 0x0a ∷ []
 
+-- `end 00000000`
+abbrev pub lineEnd : List ℕ
+lineEnd = 0x65 ∷ 0x6e ∷ 0x64 ∷ 0x20 ∷ 0x30 ∷ 0x30 ∷ 0x30 ∷ 0x30 ∷ 0x30 ∷ 0x30 ∷ 0x30 ∷ 0x30 ∷ 0x0a ∷ []
+
 -- ════════════════════════════════════════════════════════════════════════════════════════════
 -- The table
 -- ════════════════════════════════════════════════════════════════════════════════════════════
@@ -155,16 +163,17 @@ storing = usual (Push (pos 1) ∷ Load ∷ Bnz (pos 1) ∷ Push (pos 7) ∷ Push
 
 abbrev pub readings : List (List Fact)
 readings =
-    -- R1: a sum of a cell of label 1 and one of label 0 has label 1; for reader 1 the page has both lines, for reader 0 the second only
+    -- R1: a sum of a cell of label 1 and one of label 0 has label 1; for reader 1 the page has both lines, for reader 0 the second only;
+    -- both end in `end`
     (fact
     (startOf (usual (Push (pos 1) ∷ Load ∷ Push (pos 0) ∷ Load ∷ Add ∷ Output ∷ Push (pos 0) ∷ Load ∷ Output ∷ [])))
-    (run 0 9 (line (pos 12) 1 ∷ line (pos 7) 0 ∷ []))
-    ∷ fact (pageFor (jobR1 (reader 1))) (page (lineTwelve ++ lineSeven))
-    ∷ fact (pageFor (jobR1 (reader 0))) (page lineSeven)
+    (run 0 9 (line (pos 12) 1 ∷ line (pos 7) 0 ∷ ends 0))
+    ∷ fact (pageFor (jobR1 (reader 1))) (page (lineTwelve ++ lineSeven ++ lineEnd))
+    ∷ fact (pageFor (jobR1 (reader 0))) (page (lineSeven ++ lineEnd))
     ∷ [])
-    -- R2, R3: what is written after a branch on a cell of label 1 has label 1, taken or not
-    ∷ only (usual branching) (run 0 5 (line (pos 9) 1 ∷ []))
-    ∷ only (sufficing branching (pos 0)) (run 0 7 (line (pos 0) 1 ∷ line (pos 9) 1 ∷ []))
+    -- R2, R3: what is written after a branch on a cell of label 1 has label 1, taken or not, and so has the end line
+    ∷ only (usual branching) (run 0 5 (line (pos 9) 1 ∷ ends 1))
+    ∷ only (sufficing branching (pos 0)) (run 0 7 (line (pos 0) 1 ∷ line (pos 9) 1 ∷ ends 1))
     -- R4: after such a branch a cell of label 0 may not be written
     ∷ (fact (startOf storing) (run 6 5 [])
     ∷ fact (rowAfter storing) (words (pos 7 ∷ pos 1 ∷ pos 0 ∷ pos 0 ∷ pos 0 ∷ negsuc 0 ∷ negsuc 0 ∷ []))
@@ -172,17 +181,17 @@ readings =
     -- R5: after a return the place has the label that it had at the call
     ∷ only
     (usual (Push (pos 1) ∷ Load ∷ Push (pos 8) ∷ Call ∷ Push (pos 8) ∷ Output ∷ Push (pos 10) ∷ Jump ∷ Bnz (pos 1) ∷ Ret ∷ []))
-    (run 0 10 (line (pos 8) 0 ∷ []))
+    (run 0 10 (line (pos 8) 0 ∷ ends 0))
     -- R6: 2^63 − 1 plus 1 is −2^63 (`negsuc n` is −(n + 1))
-    ∷ only (usual (Push (pos 1) ∷ Push (pos (2 ^ 63 - 1)) ∷ Add ∷ Output ∷ [])) (run 0 4 (line (negsuc (2 ^ 63 - 1)) 0 ∷ []))
+    ∷ only (usual (Push (pos 1) ∷ Push (pos (2 ^ 63 - 1)) ∷ Add ∷ Output ∷ [])) (run 0 4 (line (negsuc (2 ^ 63 - 1)) 0 ∷ ends 0))
     -- R7, R8: the empty sheet with allowance 0 has ended; with allowance 0 no command is carried out
-    ∷ only (unpaid []) (run 0 0 [])
-    ∷ only (unpaid (Push (pos 1) ∷ [])) (run 1 0 [])
+    ∷ only (paid 0 []) (run 0 0 (ends 0))
+    ∷ only (paid 0 (Push (pos 1) ∷ [])) (run 1 0 [])
     -- R9, R10: no frame on top; an address outside the cells
     ∷ only (usual (Ret ∷ [])) (run 4 0 [])
     ∷ only (usual (Push (pos 2) ∷ Load ∷ [])) (run 5 1 [])
     -- R11, R12: Add at place label 0 of two labels 1: the result's label is 1 and not 0
-    ∷ only (from (pos 1 ∷ pos 0 ∷ pos 1 ∷ pos 1 ∷ negsuc 0 ∷ pos 0 ∷ pos 1 ∷ [])) (run 0 0 [])
+    ∷ only (from (pos 1 ∷ pos 0 ∷ pos 1 ∷ pos 1 ∷ negsuc 0 ∷ pos 0 ∷ pos 1 ∷ [])) (run 0 0 (ends 0))
     ∷ only (from (pos 1 ∷ pos 0 ∷ pos 1 ∷ pos 1 ∷ negsuc 0 ∷ pos 0 ∷ pos 0 ∷ [])) (refused 7 0)
     ∷ []
 
@@ -193,19 +202,23 @@ storingLoaded = usual (Push (pos 1) ∷ Load ∷ Push (pos 0) ∷ Store ∷ [])
 abbrev pub others : List (List Fact)
 others =
     -- R1's page where nothing is said of the reader: that for reader 0
-    (fact (pageFor (jobR1 [])) (page lineSeven) ∷ [])
+    (fact (pageFor (jobR1 [])) (page (lineSeven ++ lineEnd)) ∷ [])
     -- 5 − 1: top − next
-    ∷ only (usual (Push (pos 1) ∷ Push (pos 5) ∷ Sub ∷ Output ∷ [])) (run 0 4 (line (pos 4) 0 ∷ []))
+    ∷ only (usual (Push (pos 1) ∷ Push (pos 5) ∷ Sub ∷ Output ∷ [])) (run 0 4 (line (pos 4) 0 ∷ ends 0))
     -- a Store that is carried out: top is the address, next the number, and the cell has its label
-    ∷ (fact (startOf storingLoaded) (run 0 4 [])
+    ∷ (fact (startOf storingLoaded) (run 0 4 (ends 0))
     ∷ fact (cellsAfter storingLoaded) (memory (atom (pos 5) 1 ∷ atom (pos 5) 1 ∷ []))
     ∷ [])
     -- stop 2: a place outside; stop 3: Add does not reach past a frame
     ∷ only (usual (Push (pos 9) ∷ Jump ∷ [])) (run 2 2 [])
     ∷ only (usual (Push (pos 1) ∷ Push (pos 3) ∷ Call ∷ Add ∷ [])) (run 3 3 [])
     -- 256 Pushes end; stop 7: the 257th
-    ∷ only (usual (replicate 256 (Push (pos 0)))) (run 0 256 [])
+    ∷ only (usual (replicate 256 (Push (pos 0)))) (run 0 256 (ends 0))
     ∷ only (usual (replicate 257 (Push (pos 0)))) (run 7 256 [])
     -- stop 8: a second line, where one fits
-    ∷ only (narrow (Push (pos 1) ∷ Output ∷ Push (pos 2) ∷ Output ∷ [])) (run 8 3 (line (pos 1) 0 ∷ []))
+    ∷ only (narrow 1 1_000_000 (Push (pos 1) ∷ Output ∷ Push (pos 2) ∷ Output ∷ [])) (run 8 3 (line (pos 1) 0 ∷ []))
+    -- the end line needs no allowance, but space: else stop 8 after the last command, with allowance left and without
+    ∷ only (paid 1 (Push (pos 1) ∷ [])) (run 0 1 (ends 0))
+    ∷ only (narrow 1 1_000_000 (Push (pos 1) ∷ Output ∷ [])) (run 8 2 (line (pos 1) 0 ∷ []))
+    ∷ only (narrow 0 1 (Push (pos 1) ∷ [])) (run 8 1 [])
     ∷ []

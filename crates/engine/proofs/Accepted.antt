@@ -4,7 +4,6 @@ use mathlib.Core.Path.{_≡_, refl, ap, ap₂, _∙_}
 use mathlib.Core.Bool.{Bool, true, false}
 use mathlib.Core.List.{List, [], _∷_}
 use Prim.Native.Nat.{ℕ, suc, _*_, _^_, _≤_}
-use native.Mathlib.Nat.{min-le-left, min-le-right}
 use native.Mathlib.Omega.{arith}
 use lib.IntN.{ℤ, pos, negsuc}
 use lib.ListN.{length}
@@ -251,8 +250,7 @@ module _ (sheet : List ℕ) (m : Memory) (fuel : ℕ) (own : Own) where
           space = fine .stack;
           depth = omega arith;
           labels = start-range cs fine;
-          numbersFit = min-le-left _ _;
-          labelsFit = min-le-right _ _;
+          fits = omega arith;
         }
 
     -- the loop over the loaded program is the run

@@ -15,8 +15,8 @@ use Rattle.stack.specs.Words.{started, carriedOut}
 use Rattle.step.specs.Lent.{Lent}
 use Rattle.engine.specs.declared.Went.{Went}
 use Rattle.engine.specs.Memory.{Output}
-use Rattle.engine.specs.Act.{WordRuler, Acted, actOf, emitted, emitOf}
-use Rattle.engine.specs.Loop.{Done, done, ran, endOr, wordAt, operandAt, onward, atPlace, loopOf}
+use Rattle.engine.specs.Act.{WordRuler, Acted, actOf, emitted, emitOf, endOr}
+use Rattle.engine.specs.Loop.{Done, done, ran, halted, wordAt, operandAt, onward, atPlace, loopOf}
 
 -- ════════════════════════════════════════════════════════════════════════════════════════════
 -- The lent runs keep their lengths
@@ -29,9 +29,10 @@ pub record SameLengths (l : Lent) (o : Output) (l₀ : Lent) (o₀ : Output) : T
   pub labels : length (l .cells .labels) ≡ length (l₀ .cells .labels)
   pub numbers : length (o .numbers) ≡ length (o₀ .numbers)
   pub lineLabels : length (o .labels) ≡ length (o₀ .labels)
+  pub kinds : length (o .kinds) ≡ length (o₀ .kinds)
 
 pub same-start : (l : Lent) (o : Output) → SameLengths l o l o
-same-start l o = record { stack = refl; values = refl; labels = refl; numbers = refl; lineLabels = refl }
+same-start l o = record { stack = refl; values = refl; labels = refl; numbers = refl; lineLabels = refl; kinds = refl }
 
 pub same-on : {l₂ l₁ l₀ : Lent} {o₂ o₁ o₀ : Output} → SameLengths l₂ o₂ l₁ o₁ → SameLengths l₁ o₁ l₀ o₀ → SameLengths l₂ o₂ l₀ o₀
 same-on s t =
@@ -41,7 +42,14 @@ same-on s t =
       labels = s .labels ∙ t .labels;
       numbers = s .numbers ∙ t .numbers;
       lineLabels = s .lineLabels ∙ t .lineLabels;
+      kinds = s .kinds ∙ t .kinds;
     }
+
+-- where only the output space was written to
+pub same-lines : {l l₀ : Lent} {o₁ o o₀ : Output} → length (o₁ .numbers) ≡ length (o .numbers) → length (o₁ .labels) ≡ length (o .labels)
+    → length (o₁ .kinds) ≡ length (o .kinds) → SameLengths l o l₀ o₀ → SameLengths l o₁ l₀ o₀
+same-lines {l = l} n m k s =
+    same-on {l₂ = l} {l₁ = l} (record { stack = refl; values = refl; labels = refl; numbers = n; lineLabels = m; kinds = k }) s
 
 -- ════════════════════════════════════════════════════════════════════════════════════════════
 -- What is left to run
@@ -76,11 +84,16 @@ module _ {R : Type 0} (ω : WordRuler R) (count room fuel : ℕ) (program : List
     going-on h = let k = g .below in record { few = omega arith; left = rw (← d, ← f, eq-eqb (w .stop) carriedOut h) at (g .left) }
 
   module _ (m : Machine) (u : R) (l : Lent) (o : Output) (steps : ℕ) (g : Going m u l o steps) where
-    pub going-end : fuel ≤ steps → done (ran m (endOr m count 1) steps) u l o ≡ whole
-    unfolding loopOf
-    going-end h =
-        let z : fuel - steps ≡ 0 = omega arith in
-        sym (ap (λ n. loopOf ω count room program n steps m u l o) z) ∙ g .left
+    -- where it ends, with the end line or without, as w and o′
+    module _ (w : Went) (o′ : Output) where
+      abbrev ending : Done R
+      ending = done (ran (w .machine) (w .stop) steps) u l o′
+
+      pub going-end : emitted w o′ ≡ endOr count room m 1 o → fuel ≤ steps → ending ≡ whole
+      unfolding loopOf
+      going-end e h =
+          let z : fuel - steps ≡ 0 = omega arith in
+          ap (λ x. halted x u l steps) e ∙ sym (ap (λ n. loopOf ω count room program n steps m u l o) z) ∙ g .left
 
     module _ (h : steps < fuel) where
       -- one step more
@@ -91,8 +104,9 @@ module _ {R : Type 0} (ω : WordRuler R) (count room fuel : ℕ) (program : List
           let z : fuel - steps ≡ suc (fuel - (steps + 1)) = omega arith in
           sym (ap (λ n. loopOf ω count room program n steps m u l o) z) ∙ g .left
 
-      pub going-outside : indexOf (m .pc .0) count ≡ Outside → done (ran m (endOr m count 2) steps) u l o ≡ whole
-      going-outside e = rw e at one
+      pub going-outside : (w : Went) (o′ : Output) → emitted w o′ ≡ endOr count room m 2 o → indexOf (m .pc .0) count ≡ Outside
+          → ending w o′ ≡ whole
+      going-outside w o′ f e = ap (λ x. halted x u l steps) f ∙ (rw e at one)
 
       -- the command at the place
       pub going-at : (i : ℕ) → indexOf (m .pc .0) count ≡ At i → Acting (wordAt program i) (operandAt program i) m u l o steps

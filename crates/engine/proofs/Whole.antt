@@ -5,10 +5,11 @@ use mathlib.Core.Path.{_≡_, refl, sym, ap, ap₂, _∙_}
 use mathlib.Core.Bool.{Bool, true, false}
 use mathlib.Core.List.{List, [], _∷_}
 use mathlib.Core.Option.{none, some}
-use Prim.Native.Nat.{ℕ, zero, suc, _+_, _≤_}
+use Prim.Native.Nat.{ℕ, zero, suc, _+_, _≤_, _<_}
+use native.Mathlib.Numerals.{add-one}
 use native.Mathlib.Omega.{arith}
 use lib.IntN.{ℤ, pos, negsuc}
-use lib.ListN.{length, getElem?}
+use lib.ListN.{length, length-append, getElem?}
 use lib.Dec.{ltb, eqb}
 use borrow.Author.Tests.{eq-eqb, ne-eqb, ltb-true, ltb-false}
 use Rattle.word.specs.declared.number.Index.the-variants.{At, Outside}
@@ -22,9 +23,10 @@ use Rattle.program.specs.Command.{opcode, codeOf, operand}
 use Rattle.program.specs.Space.{programWords}
 use Rattle.program.proofs.Words.{code-at, operand-at, element-below}
 use Rattle.machine.specs.Rule.{Ruler, rules}
-use Rattle.machine.specs.State.{State, Stop, end, fuelSpent, pcOutside, stopNumber}
+use Rattle.machine.specs.Atom.{endLine}
+use Rattle.machine.specs.State.{State, Stop, fuelSpent, pcOutside, outputFull, stopNumber}
 use Rattle.machine.specs.Step.{Outcome, stopped, stepped, execute}
-use Rattle.machine.specs.Run.{atEnd, asked, Result, result, run, along}
+use Rattle.machine.specs.Run.{atEnd, asked, Result, result, finish, run, along}
 use Rattle.machine.specs.Stopped.{CommandAt, NoCommandAt}
 use Rattle.machine.specs.Holds.{ProgramHas, Answers}
 use Rattle.machine.proofs.Stops.{stop-other}
@@ -37,10 +39,12 @@ use Rattle.stack.specs.Words.{carriedOut}
 use Rattle.step.specs.Lent.{Lent, lent}
 use Rattle.engine.specs.Memory.{Output}
 use Rattle.engine.specs.Layout.{stackWords, cellWords, linesLaid, stackLaid, stackAfter}
-use Rattle.engine.specs.Act.{WordRuler, Acted, actOf}
-use Rattle.engine.specs.Loop.{Done, done, ran, isCount, endOr, onward, loopOf}
+use Rattle.engine.specs.Act.{WordRuler, Acted, actOf, went, Emitted, emitted, isCount, writeOf, endOr}
+use Rattle.engine.specs.Loop.{Done, done, halted, onward, loopOf}
 use Rattle.engine.specs.Ended.{machineOf, summary}
 use Rattle.engine.proofs.Link.Stack.{stackWords-length}
+use Rattle.engine.proofs.Link.Record.{printed-line}
+use Rattle.engine.proofs.Link.Runs.{line-at}
 use Rattle.engine.proofs.Link.Represents.{Represents, Sound, Simulates}
 use Rattle.engine.proofs.Act.{Follows, act-both}
 
@@ -105,25 +109,50 @@ module _ {R : Type 0} (ω : WordRuler R) (ρ : Ruler R) (follows : Follows ω ρ
     abbrev m : Machine
     m = machineOf s
 
-    at-end : (other : ℕ) → atEnd (length cs) (s .pc .number) ≡ true → endOr m (length cs) other ≡ 0
-    unfolding endOr
-    at-end other t = rw (end-is (s .pc .number) (length cs), t)
-
-    not-end : (other : ℕ) → atEnd (length cs) (s .pc .number) ≡ false → endOr m (length cs) other ≡ other
+    not-end : (other : ℕ) → atEnd (length cs) (s .pc .number) ≡ false → endOr (length cs) room m other o ≡ emitted (went m other) o
     unfolding endOr
     not-end other t = rw (end-is (s .pc .number) (length cs), t)
 
     -- where both stop, with v kept by the ruler
-    stops : (fuel : ℕ) (x : Stop) (v : R) {k : ℕ} → k ≡ stopNumber x → run ρ room cs fuel s u ≡ result x s v
-        → stackAfter ρ room cs fuel s u (l .stack) ≡ l .stack → done (ran m k n) v l o ≡ whole fuel s u (l .stack)
+    stops : (fuel : ℕ) (x : Stop) (v : R) {k : Emitted} → k ≡ emitted (went m (stopNumber x)) o → run ρ room cs fuel s u ≡ result x s v
+        → stackAfter ρ room cs fuel s u (l .stack) ≡ l .stack → halted k v l n ≡ whole fuel s u (l .stack)
     stops fuel x v a b c = rw (a, b, c, ← e, ← r .cells, ← r .output)
 
-    ends-none : looped 0 n m u l o ≡ whole 0 s u (l .stack)
-    unfolding loopOf along
-    ends-none = go (atEnd (length cs) (s .pc .number)) refl
+    -- at the end, with room for the end line and without
+    ends : (fuel other : ℕ) → Sound room o₀ s l → atEnd (length cs) (s .pc .number) ≡ true
+        → halted (endOr (length cs) room m other o) u l n ≡ whole fuel s u (l .stack)
+    unfolding endOr writeOf
+    ends fuel other h g = rw (end-is (s .pc .number) (length cs), g) (go (ltb (length (s .lines)) room) refl)
       where
-        go : (b : Bool) → atEnd (length cs) (s .pc .number) ≡ b → done (ran m (endOr m (length cs) 1) n) u l o ≡ whole 0 s u (l .stack)
-        go true g = stops 0 end u (at-end 1 g) (run-end ρ room cs 0 s u g) refl
+        same : stackAfter ρ room cs fuel s u (l .stack) ≡ l .stack
+        same = along-end ρ room cs stackLaid s u (l .stack) fuel g
+
+        go : (b : Bool) → ltb (length (s .lines)) room ≡ b
+            → halted (writeOf room m (endLine (s .pc .label)) (went m 0) o) u l n ≡ whole fuel s u (l .stack)
+        go true f =
+            let fits : length (s .lines) < room = ltb-true _ _ f in
+            let line = line-at (s .lines) (endLine (s .pc .label)) o o₀ (r .output) (omega (arith, h .fits)) in
+            rw (
+              run-end ρ room cs fuel s u g,
+              f,
+              same,
+              line,
+              printed-line _ _ _ _ room fits,
+              length-append,
+              add-one,
+              ← e,
+              ← r .cells,
+            )
+        go false f =
+            rw f (stops fuel outputFull u refl (run-end ρ room cs fuel s u g ∙ ap (λ (b : Bool). finish b s u) f) same)
+
+    ends-none : Sound room o₀ s l → looped 0 n m u l o ≡ whole 0 s u (l .stack)
+    unfolding loopOf along
+    ends-none h = go (atEnd (length cs) (s .pc .number)) refl
+      where
+        go : (b : Bool) → atEnd (length cs) (s .pc .number) ≡ b
+            → halted (endOr (length cs) room m 1 o) u l n ≡ whole 0 s u (l .stack)
+        go true g = ends 0 1 h g
         go false g = stops 0 fuelSpent u (not-end 1 g) (run-spent ρ room cs s u g) refl
 
     module _ (fuel : ℕ) (h : Sound room o₀ s l) (on : Ends fuel) where
@@ -139,8 +168,7 @@ module _ {R : Type 0} (ω : WordRuler R) (ρ : Ruler R) (follows : Follows ω ρ
             space = omega (arith, h .space);
             depth = deep;
             labels = gives-stepped _ (step-at room s cs c at (rules ρ u) ∙ d) (step-range (rules ρ u) (answers u) room cs s (h .labels));
-            numbersFit = h .numbersFit;
-            labelsFit = h .labelsFit;
+            fits = h .fits;
           }
 
       -- one command, which leaves a
@@ -169,10 +197,7 @@ module _ {R : Type 0} (ω : WordRuler R) (ρ : Ruler R) (follows : Follows ω ρ
 
       ends-more : Place cs (s .pc .number) → looped (suc fuel) n m u l o ≡ whole (suc fuel) s u (l .stack)
       unfolding loopOf
-      ends-more (atTheEnd i g) =
-          rw i
-          (stops (suc fuel) end u (at-end 2 g) (run-end ρ room cs (suc fuel) s u g)
-          (along-end ρ room cs stackLaid s u (l .stack) (suc fuel) g))
+      ends-more (atTheEnd i g) = rw i (ends (suc fuel) 2 h g)
       ends-more (beyond i g out) =
           let v = step-none room s cs out (rules ρ u) in
           rw i
@@ -186,6 +211,6 @@ module _ {R : Type 0} (ω : WordRuler R) (ρ : Ruler R) (follows : Follows ω ρ
           (asked-at room s cs c at ρ u ∙ sym (both .1)) (both .0))
 
   pub loop-run : (fuel : ℕ) → Ends fuel
-  loop-run zero s m u l o n r h e = rw (r .machine) (ends-none s u l o n (rw (r .machine) at r) e)
+  loop-run zero s m u l o n r h e = rw (r .machine) (ends-none s u l o n (rw (r .machine) at r) e h)
   loop-run (suc fuel) s m u l o n r h e =
       rw (r .machine) (ends-more s u l o n (rw (r .machine) at r) e fuel h (loop-run fuel) (placed cs (s .pc .number)))

@@ -1,10 +1,15 @@
 -- One command on lent words: what it finds, what a ruler says of it, what it does.
 use Prim.Native.Nat.{ℕ}
+use mathlib.Core.Bool.{Bool, false}
 use lib.IntN.{ℤ, pos}
 use lib.ListN.{set}
 use lib.Dec.{ltb, eqb}
 use Rattle.word.specs.Choose.{choose}
 use Rattle.word.specs.Wrap.{residue}
+use Rattle.word.specs.declared.number.Natural.{Natural}
+use Rattle.word.specs.declared.number.Natural.the-variants.{Of, Negative}
+use Rattle.word.specs.Number.{naturalOf}
+use Rattle.machine.specs.Atom.{Line, numberLine, endLine}
 use Rattle.machine.specs.Rule.{Verdict, denied, allowed, Ruling}
 use Rattle.stack.specs.declared.Machine.{Machine}
 use Rattle.stack.specs.declared.Stepped.{Stepped}
@@ -15,6 +20,7 @@ use Rattle.step.specs.Find.{findOf}
 use Rattle.step.specs.Effect.{effectOf}
 use Rattle.engine.specs.declared.Went.{Went}
 use Rattle.engine.specs.Memory.{Output, output}
+use Rattle.engine.specs.Layout.{kindWord}
 
 -- what a ruler on words is asked with: the command's code word, the place label, and what the command found
 pub record Asked : Type 0 where
@@ -50,7 +56,7 @@ module _ {R : Type 0} (ρ : WordRuler R) (word operand : ℤ) (m : Machine) (u :
   unfoldable pub actOf : Acted R
   actOf = actFound (findOf (residue 64 word) m l)
 
--- its line
+-- where a run stands after a command, and the output space
 abbrev pub went : Machine → ℕ → Went
 went m stop = record { machine = m; stop = stop }
 
@@ -61,12 +67,31 @@ pub record Emitted : Type 0 where
 abbrev pub emitted : Went → Output → Emitted
 emitted w o = record { went = w; output = o }
 
--- the line that a command hands back is written where there is room; without, the command is stopped and changes nothing
+-- the words of a line at an index
+abbrev pub lineAt : ℕ → Line → Output → Output
+lineAt i x o = output (set (o .numbers) i (x .number)) (set (o .labels) i (pos (x .label))) (set (o .kinds) i (kindWord (x .kind)))
+
+-- a line is written after those that are, where there is room, and then the run stands at w; without, it is stopped and nothing changes
+unfoldable pub writeOf : (room : ℕ) → Machine → Line → Went → Output → Emitted
+writeOf room m x w o =
+    choose (ltb (m .lines) room)
+    (emitted (went (printed (w .machine) room) (w .stop)) (lineAt (m .lines) x o))
+    (emitted (went m 8) o)
+
+-- the line that a command hands back
 unfoldable pub emitOf : (room : ℕ) → Machine → Stepped → Output → Emitted
 emitOf room m r o =
     choose (eqb (r .stop) prints)
-    (choose (ltb (m .lines) room)
-    (emitted (went (printed (r .machine) room) carriedOut)
-    (output (set (o .numbers) (m .lines) (r .number)) (set (o .labels) (m .lines) (pos (r .label .0)))))
-    (emitted (went m 8) o))
+    (writeOf room m (numberLine (r .number) (r .label .0)) (went (r .machine) carriedOut) o)
     (emitted (went (r .machine) (r .stop)) o)
+
+-- at the end of the program the end line and stop 0, else another stop
+abbrev pub isCount : Natural → ℕ → Bool
+isCount (Of n) count = eqb n count
+isCount Negative count = false
+
+unfoldable pub endOr : (count room : ℕ) → Machine → (other : ℕ) → Output → Emitted
+endOr count room m other o =
+    choose (isCount (naturalOf (m .pc .0)) count)
+    (writeOf room m (endLine (m .label .0)) (went m 0) o)
+    (emitted (went m other) o)

@@ -2,15 +2,20 @@
 use Prim.Native.Nat.{ℕ}
 use mathlib.Core.List.{List, [], _∷_, _++_, map}
 use lib.IntN.{ℤ, pos}
-use lib.ListN.{take}
+use lib.ListN.{take, getD}
+use Rattle.word.specs.Choose.{choose}
 use Rattle.word.specs.Lay.{laid}
+use Rattle.word.specs.Number.{isZero}
 use Rattle.label.specs.Word.{lowLabel}
 use Rattle.program.specs.declared.Command.{Command}
+use Rattle.machine.specs.declared.Kind.{Kind}
+use Rattle.machine.specs.declared.Kind.the-variants.{Number, End}
 use Rattle.machine.specs.Atom.{Atom, Entry, value, frame, Line}
 use Rattle.machine.specs.Rule.{Ruler}
 use Rattle.machine.specs.State.{State}
 use Rattle.machine.specs.Run.{along}
 use Rattle.step.specs.Lent.{Cells, cells}
+use Rattle.engine.specs.declared.Line as Code
 use Rattle.engine.specs.Memory.{Output, output}
 
 -- three words a stack entry: 0 value or 1 frame, number, label
@@ -23,9 +28,14 @@ unfoldable pub stackWords : List Entry → List ℤ
 stackWords [] = []
 stackWords (e ∷ es) = stackWords es ++ entryWords e
 
--- cells and lines are a number word and a label word each
+-- a cell is a number word and a label word
 abbrev pub cellWords : List Atom → Cells
 cellWords atoms = cells (map (λ a. a .number) atoms) (map (λ a. pos (a .label)) atoms)
+
+-- a line is a number word, a label word and a kind word: 0 for a number, 1 for the end
+abbrev pub kindWord : Kind → ℤ
+kindWord Number = pos 0
+kindWord End = pos 1
 
 abbrev pub lineNumbers : List Line → List ℤ
 lineNumbers lines = map (λ l. l .number) lines
@@ -33,22 +43,45 @@ lineNumbers lines = map (λ l. l .number) lines
 abbrev pub lineLabels : List Line → List ℤ
 lineLabels lines = map (λ l. pos (l .label)) lines
 
+abbrev pub lineKinds : List Line → List ℤ
+lineKinds lines = map (λ l. kindWord (l .kind)) lines
+
 -- from the start of the output space on, the rest as it came
 abbrev pub linesLaid : List Line → Output → Output
-linesLaid lines o = output (laid (lineNumbers lines) (o .numbers)) (laid (lineLabels lines) (o .labels))
+linesLaid lines o =
+    output (laid (lineNumbers lines) (o .numbers)) (laid (lineLabels lines) (o .labels)) (laid (lineKinds lines) (o .kinds))
 
--- what two runs of words hold, pair by pair, as far as the shorter goes
-unfoldable pub paired : {A : Type 0} → (ℤ → ℕ → A) → List ℤ → List ℤ → List A
-paired make [] labels = []
-paired make (n ∷ numbers) [] = []
-paired make (n ∷ numbers) (l ∷ labels) = make n (lowLabel l) ∷ paired make numbers labels
+-- what two runs hold, pair by pair, as far as the shorter goes
+unfoldable pub paired : {A B C : Type 0} → (A → B → C) → List A → List B → List C
+paired make [] ys = []
+paired make (x ∷ xs) [] = []
+paired make (x ∷ xs) (y ∷ ys) = make x y ∷ paired make xs ys
+
+-- a number word and a label word
+abbrev pub atomOf : ℤ → ℤ → Atom
+atomOf n l = record { number = n; label = lowLabel l }
 
 abbrev pub cellsOf : Cells → List Atom
-cellsOf c = paired (λ n l. record { number = n; label = l }) (c .values) (c .labels)
+cellsOf c = paired atomOf (c .values) (c .labels)
+
+-- with a kind word: 0 is a number's, any other the end's
+abbrev pub kindOf : ℤ → Kind
+kindOf w = choose (isZero w) Number End
+
+abbrev pub lineOf : Atom → ℤ → Line
+lineOf a w = record { kind = kindOf w; number = a .number; label = a .label }
+
+-- the line at an index; beyond a run's end its word is 0
+abbrev pub lineIn : ℕ → Output → Line
+lineIn i o = lineOf (atomOf (getD (o .numbers) i (pos 0)) (getD (o .labels) i (pos 0))) (getD (o .kinds) i (pos 0))
+
+-- as the code has it
+abbrev pub lineFrom : Code.Line → Line
+lineFrom x = record { kind = x .kind; number = x .number; label = x .label .0 }
 
 -- so many lines from the start on
 abbrev pub linesOf : ℕ → Output → List Line
-linesOf n o = take n (paired (λ n l. record { number = n; label = l }) (o .numbers) (o .labels))
+linesOf n o = take n (paired lineOf (paired atomOf (o .numbers) (o .labels)) (o .kinds))
 
 -- the stack space over a run: after each step the stack's words are laid over it, so that a dropped entry keeps its content
 abbrev pub stackLaid : State → List ℤ → List ℤ

@@ -5,17 +5,18 @@ use lib.IntN.{ℤ}
 use lib.ListN.{length}
 use Rattle.step.specs.Lent.{Lent}
 
--- the output space: numbers and labels of lines
+-- the output space: numbers, labels and kinds of lines
 pub record Output : Type 0 where
   pub numbers : List ℤ
   pub labels : List ℤ
+  pub kinds : List ℤ
 
-abbrev pub output : List ℤ → List ℤ → Output
-output numbers labels = record { numbers = numbers; labels = labels }
+abbrev pub output : (numbers labels kinds : List ℤ) → Output
+output numbers labels kinds = record { numbers = numbers; labels = labels; kinds = kinds }
 
--- the shorter run sets how many lines fit
+-- the shortest run sets how many lines fit
 abbrev pub room : Output → ℕ
-room o = min (length (o .numbers)) (length (o .labels))
+room o = min (min (length (o .numbers)) (length (o .labels))) (length (o .kinds))
 
 -- working space for commands, the stack and the cells, output space
 pub record Memory : Type 0 where

@@ -2,16 +2,20 @@
 // Start, Act, Loop, Ended; proofs/ shows that the loop on words is the machine's run under the engine's ruler.
 pub mod start;
 
+use label::Label;
+use machine::Kind;
 use program::Refusal;
 use stack::CARRIED;
 use stack::Machine;
 use stack::PRINTS;
 use stack::Stepped;
+use word::number::Natural;
 ghost use mathlib.Core.Path.{_≡_};
 ghost use Prim.Native.Nat.{min};
+ghost use Rattle.word.specs.Number.{naturalOf};
 ghost use Rattle.engine.specs.Memory.{output};
-ghost use Rattle.engine.specs.Act.{emitted, emitOf};
-ghost use Rattle.engine.specs.Loop.{endOr};
+ghost use Rattle.engine.specs.Layout.{kindWord, kindOf, lineIn, lineFrom};
+ghost use Rattle.engine.specs.Act.{emitted, writeOf, emitOf, isCount, endOr};
 
 // Where a run ended: the machine record, the stop and the steps.
 pub struct Ran {
@@ -32,48 +36,159 @@ pub struct Went {
     pub stop: u64,
 }
 
-// How many lines fit: the shorter run.
-pub fn room(numbers: usize, labels: usize) -> usize
-    ensures { λ r. ⌜ r ≡ min numbers labels ⌝ }
+// The shorter of two lengths.
+pub fn shorter(a: usize, b: usize) -> usize
+    ensures { λ r. ⌜ r ≡ min a b ⌝ }
 {
-    if numbers < labels { numbers } else { labels }
+    if a < b { a } else { b }
 }
 
-// Writes the line that a command handed back, after those that are written; stop 8 where there is no room for it.
-pub fn emit(m: Machine, r: Stepped, room: usize, numbers: &mut [i64], labels: &mut [i64]) -> Went
-    ensures { λ w. ⌜ emitted w (output (now (numbers .exit)) (now (labels .exit)))
-        ≡ emitOf room m r (output (now (numbers .entry)) (now (labels .entry))) ⌝ }
+// How many lines fit: the shortest of the three runs.
+pub fn room(numbers: usize, labels: usize, kinds: usize) -> usize
+    ensures { λ r. ⌜ r ≡ min (min numbers labels) kinds ⌝ }
 {
-    let after = r.machine;
-    let stop = r.stop;
-    if stop == PRINTS {
-        let lines = m.lines;
-        if lines < room {
-            word::memory::put(numbers, lines, r.number);
-            word::memory::put(labels, lines, r.label.word());
-            return Went {
-                machine: after.print(room),
-                stop: CARRIED,
-            };
-        }
+    shorter(shorter(numbers, labels), kinds)
+}
+
+// A line's kind word: 0 for a number, 1 for the end.
+fn kind_word(kind: Kind) -> i64
+    ensures { λ r. ⌜ r ≡ kindWord kind ⌝ }
+{
+    match kind {
+        Kind::Number => 0,
+        Kind::End => 1,
+    }
+}
+
+// What a stored kind word says: 0 is a number's, any other the end's.
+fn kind_of(word: i64) -> Kind
+    ensures { λ r. ⌜ r ≡ kindOf word ⌝ }
+{
+    if word == 0 { Kind::Number } else { Kind::End }
+}
+
+// A line of the output space.
+pub struct Line {
+    pub kind: Kind,
+    pub number: i64,
+    pub label: Label,
+}
+
+// The line at an index; beyond a run's end its word is 0.
+pub fn line_at(numbers: &[i64], labels: &[i64], kinds: &[i64], i: usize) -> Line
+    ensures { λ r. ⌜ lineFrom r ≡ lineIn i (output (now (numbers .entry)) (now (labels .entry)) (now (kinds .entry))) ⌝ }
+{
+    let number = word::memory::at(numbers, i);
+    let label = Label::low(word::memory::at(labels, i));
+    let kind = kind_of(word::memory::at(kinds, i));
+    Line {
+        kind,
+        number,
+        label,
+    }
+}
+
+// Writes a line after those that are written, and then the run stands as `after` says; without room for it stop 8, and nothing changes.
+fn write(
+    m: Machine,
+    line: Line,
+    after: Went,
+    room: usize,
+    numbers: &mut [i64],
+    labels: &mut [i64],
+    kinds: &mut [i64],
+) -> Went
+    ensures { λ w. ⌜ emitted w (output (now (numbers .exit)) (now (labels .exit)) (now (kinds .exit)))
+        ≡ writeOf room m (lineFrom line) after (output (now (numbers .entry)) (now (labels .entry)) (now (kinds .entry))) ⌝ }
+{
+    let lines = m.lines;
+    if lines < room {
+        let kind = line.kind;
+        let machine = after.machine;
+        word::memory::put(numbers, lines, line.number);
+        word::memory::put(labels, lines, line.label.word());
+        word::memory::put(kinds, lines, kind_word(kind));
         return Went {
-            machine: m,
-            stop: 8,
+            machine: machine.print(room),
+            stop: after.stop,
         };
     }
     Went {
-        machine: after,
-        stop,
+        machine: m,
+        stop: 8,
     }
 }
 
-// Stop 0 where the place is the number of commands, else another.
-pub fn end_or(m: Machine, count: usize, other: u64) -> u64
-    ensures { λ r. ⌜ r ≡ endOr m count other ⌝ }
+// Writes the line that a command handed back.
+pub fn emit(
+    m: Machine,
+    r: Stepped,
+    room: usize,
+    numbers: &mut [i64],
+    labels: &mut [i64],
+    kinds: &mut [i64],
+) -> Went
+    ensures { λ w. ⌜ emitted w (output (now (numbers .exit)) (now (labels .exit)) (now (kinds .exit)))
+        ≡ emitOf room m r (output (now (numbers .entry)) (now (labels .entry)) (now (kinds .entry))) ⌝ }
+{
+    let machine = r.machine;
+    let stop = r.stop;
+    if stop == PRINTS {
+        let number = r.number;
+        let label = r.label;
+        let line = Line {
+            kind: Kind::Number,
+            number,
+            label,
+        };
+        let after = Went {
+            machine,
+            stop: CARRIED,
+        };
+        return write(m, line, after, room, numbers, labels, kinds);
+    }
+    Went { machine, stop }
+}
+
+// Is the place the number of commands?
+fn at_end(m: Machine, count: usize) -> bool
+    ensures { λ r. ⌜ r ≡ isCount (naturalOf (m .pc .0)) count ⌝ }
 {
     let place = word::number::unsigned(m.pc.0);
     match place {
-        word::number::Natural::Of(n) => { if n == count as u64 { 0 } else { other } }
-        word::number::Natural::Negative => other,
+        Natural::Of(n) => n == count as u64,
+        Natural::Negative => false,
+    }
+}
+
+// At the end the end line, labelled with the place label, and stop 0; elsewhere another stop.
+pub fn end_or(
+    m: Machine,
+    count: usize,
+    other: u64,
+    room: usize,
+    numbers: &mut [i64],
+    labels: &mut [i64],
+    kinds: &mut [i64],
+) -> Went
+    ensures { λ w. ⌜ emitted w (output (now (numbers .exit)) (now (labels .exit)) (now (kinds .exit)))
+        ≡ endOr count room m other (output (now (numbers .entry)) (now (labels .entry)) (now (kinds .entry))) ⌝ }
+{
+    if at_end(m, count) {
+        let label = m.label;
+        let line = Line {
+            kind: Kind::End,
+            number: 0,
+            label,
+        };
+        let after = Went {
+            machine: m,
+            stop: 0,
+        };
+        return write(m, line, after, room, numbers, labels, kinds);
+    }
+    Went {
+        machine: m,
+        stop: other,
     }
 }

@@ -88,7 +88,7 @@ fn first_broken(count: usize, labels: &[i64], given: Given, own: Own) -> Limit
     ensures { λ r. ⌜ r ≡ firstOf (limits count (now (labels .entry)) given own) ⌝ }
 {
     let values = given.values;
-    let shorter = crate::room(values, labels.len());
+    let shorter = crate::shorter(values, labels.len());
     let rules = own.rules;
     let row = own.row;
     let handler = own.handler;

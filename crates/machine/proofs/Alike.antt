@@ -5,11 +5,12 @@ use mathlib.Core.Bool.{Bool, true, false}
 use mathlib.Core.List.{List}
 use Prim.Native.Nat.{ℕ, zero, suc}
 use lib.ListN.{length}
+use lib.Dec.{ltb}
 use Rattle.program.specs.declared.Command.{Command}
 use Rattle.machine.specs.Rule.{Verdict, Policy, Ruler, rules}
 use Rattle.machine.specs.State.{State}
 use Rattle.machine.specs.Step.{Outcome, stopped, stepped, Request, halt, ask, request, keyOf, decide, consult, execute}
-use Rattle.machine.specs.Run.{atEnd, step, asked, Result, run, along, Same}
+use Rattle.machine.specs.Run.{atEnd, step, asked, Result, finish, run, along, Same}
 use Rattle.machine.proofs.Step.{step-all, step-at, step-none}
 use Rattle.machine.proofs.Run.{run-end, run-spent, run-stopped, run-stepped, along-end, along-stopped, along-stepped}
 
@@ -50,10 +51,20 @@ module _ {Q R : Type 0} (σ : Ruler Q) (ρ : Ruler R) (room : ℕ) (cs : List Co
   same : {q q′ : Result Q} {r r′ : Result R} → q ≡ q′ → r ≡ r′ → Same q′ r′ → Same q r
   same e f h = rw (e, f) h
 
+  -- with room for the end line, and without
+  finish-alike : (s : State) (u : Q) (v : R) (fits : Bool) → Same (finish fits s u) (finish fits s v)
+  finish-alike s u v true = record { stop = refl; state = refl }
+  finish-alike s u v false = record { stop = refl; state = refl }
+
+  end-alike : (fuel : ℕ) (s : State) (u : Q) (v : R) → atEnd (length cs) (s .pc .number) ≡ true
+      → Same (run σ room cs fuel s u) (run ρ room cs fuel s v)
+  end-alike fuel s u v e =
+      same (run-end σ room cs fuel s u e) (run-end ρ room cs fuel s v e) (finish-alike s u v (ltb (length (s .lines)) room))
+
   -- at the end, and without allowance
   none-alike : (s : State) (u : Q) (v : R) (b : Bool) → atEnd (length cs) (s .pc .number) ≡ b
       → Same (run σ room cs 0 s u) (run ρ room cs 0 s v)
-  none-alike s u v true e = same (run-end σ room cs 0 s u e) (run-end ρ room cs 0 s v e) (record { stop = refl; state = refl })
+  none-alike s u v true e = end-alike 0 s u v e
   none-alike s u v false e = same (run-spent σ room cs s u e) (run-spent ρ room cs s v e) (record { stop = refl; state = refl })
 
   -- by the first step, where the rest of the run is alike
@@ -61,8 +72,7 @@ module _ {Q R : Type 0} (σ : Ruler Q) (ρ : Ruler R) (room : ℕ) (cs : List Co
     more-alike : ((t : State) (x : Q) (y : R) → E t x y → Same (run σ room cs fuel t x) (run ρ room cs fuel t y))
         → (b : Bool) → atEnd (length cs) (s .pc .number) ≡ b → (o : Outcome) → step (rules ρ v) room cs s ≡ o
         → Same (run σ room cs (suc fuel) s u) (run ρ room cs (suc fuel) s v)
-    more-alike on true e o g =
-        same (run-end σ room cs (suc fuel) s u e) (run-end ρ room cs (suc fuel) s v e) (record { stop = refl; state = refl })
+    more-alike on true e o g = end-alike (suc fuel) s u v e
     more-alike on false e (stopped x) g =
         same (run-stopped σ room cs s u e fuel x (alike .steps s u v h ∙ g)) (run-stopped ρ room cs s v e fuel x g)
         (record { stop = refl; state = refl })

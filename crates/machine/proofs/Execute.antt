@@ -1,6 +1,7 @@
 -- One command: what it changes, and why it is stopped.
 -- Assumes nothing.
 use mathlib.Core.Path.{_≡_, refl}
+use mathlib.Core.Bool.{false}
 use mathlib.Core.List.{List, [], _∷_, _++_, append-nil}
 use Prim.Native.Nat.{ℕ, suc, _≤_, _<_}
 use native.Mathlib.Omega.{arith}
@@ -13,13 +14,16 @@ use Rattle.program.specs.Command.{opcode, push, output}
 use Rattle.machine.specs.Atom.{Atom, Entry, Line}
 use Rattle.machine.specs.Rule.{Verdict, denied, allowed, Policy}
 use Rattle.machine.specs.State.{State, Stop, valueMissing, frameMissing, addressOutside, denial, stackFull, outputFull}
-use Rattle.machine.specs.Step.{Outcome, stopped, stepped, Request, halt, ask, stackLimit, keyOf, decide, consult, request, execute}
+use Rattle.machine.specs.Step.{Outcome, stopped, stepped, Request, halt, ask, stackLimit, provided, printing, keyOf, decide}
+use Rattle.machine.specs.Step.{consult, request, execute}
 use Rattle.machine.specs.Stopped.{Denied}
+use Rattle.machine.specs.End.{hasEnd}
 use Rattle.machine.proofs.Request.{value-all, values-all, frame-all, cell-all, provided-all}
 
 pub record Change (room : ℕ) (s t : State) : Type 0 where
   pub steps : t .steps ≡ suc (s .steps)
   pub lines : (more : List Line) × (t .lines ≡ s .lines ++ more)
+  pub numbers : hasEnd (lines .0) ≡ false
   pub fits : length (s .lines) ≤ room → length (t .lines) ≤ room
   pub memory : length (t .memory) ≡ length (s .memory)
   pub depth : length (s .stack) ≤ stackLimit → length (t .stack) ≤ stackLimit
@@ -59,7 +63,18 @@ Depth es fs = length es ≤ stackLimit → length fs ≤ stackLimit
 -- the place and the stack change
 plain : (room : ℕ) (s : State) (p : Atom) (es : List Entry) → Depth (s .stack) es
     → Change room s (record { pc = p; stack = es; memory = s .memory; lines = s .lines; steps = suc (s .steps) })
-plain room s p es h = record { steps = refl; lines = ([], rw append-nil); fits = λ f. f; memory = refl; depth = h }
+plain room s p es h =
+    record { steps = refl; lines = ([], rw append-nil); numbers = refl; fits = λ f. f; memory = refl; depth = h }
+
+-- a line more, which is no end line
+line-fit : (π : Policy) (room : ℕ) (s : State) (p : ℕ) (rest : List Entry) (line : Line) → hasEnd (line ∷ []) ≡ false
+    → Depth (s .stack) rest → Sound π room Output s (provided (ltb (length (s .lines)) room) outputFull (printing s p rest line))
+line-fit π room s p rest line number h =
+    provided-all (Sound π room Output s) (ltb (length (s .lines)) room) _ _
+    (λ g. let few : length (s .lines) < room = ltb-true _ _ g in
+    let fits : length (s .lines ++ (line ∷ [])) ≤ room = rw length-append (omega arith) in
+    record { steps = refl; lines = (line ∷ [], refl); numbers = number; fits = λ f. fits; memory = refl; depth = h })
+    (λ g. no-line refl (ltb-false _ _ g))
 
 request-fit : (π : Policy) (room : ℕ) (c : Command) (s : State) → Fit π room c s (request room c s)
 unfolding request
@@ -70,13 +85,7 @@ request-fit π room Sub s =
 request-fit π room Pop s =
     value-all (Fit π room Pop s) (s .stack) _ no-value (λ a rest e p r. plain room s _ _ (rw e (omega arith)))
 request-fit π room Output s =
-    value-all (Fit π room Output s) (s .stack) _ no-value (λ a rest e p r.
-    let line : Line = record { number = a .number; label = r } in
-    provided-all (Sound π room Output s) (ltb (length (s .lines)) room) _ _
-    (λ g. let h : length (s .lines) < room = ltb-true _ _ g in
-    let fits : length (s .lines ++ (line ∷ [])) ≤ room = rw length-append (omega arith) in
-    record { steps = refl; lines = (line ∷ [], refl); fits = λ f. fits; memory = refl; depth = rw e (omega arith) })
-    (λ g. no-line refl (ltb-false _ _ g)))
+    value-all (Fit π room Output s) (s .stack) _ no-value (λ a rest e p r. line-fit π room s p rest _ refl (rw e (omega arith)))
 request-fit π room (Push n) s = λ p r.
     provided-all (Sound π room (Push n) s) (ltb (length (s .stack)) stackLimit) _ _
     (λ g. plain room s _ _ (omega (arith, ltb-true (length (s .stack)) stackLimit g)))
@@ -87,7 +96,14 @@ request-fit π room Load s =
 request-fit π room Store s =
     values-all (Fit π room Store s) (s .stack) _ no-value (λ a b rest e.
     cell-all (Fit π room Store s) (s .memory) (a .number) _ no-cell (λ i c g at p r.
-    record { steps = refl; lines = ([], rw append-nil); fits = λ f. f; memory = simp length-set; depth = rw e (omega arith) }))
+    record {
+      steps = refl;
+      lines = ([], rw append-nil);
+      numbers = refl;
+      fits = λ f. f;
+      memory = simp length-set;
+      depth = rw e (omega arith);
+    }))
 request-fit π room Jump s =
     value-all (Fit π room Jump s) (s .stack) _ no-value (λ a rest e p r. plain room s _ _ (rw e (omega arith)))
 request-fit π room (Bnz n) s =

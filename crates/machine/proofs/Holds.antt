@@ -17,13 +17,13 @@ use Rattle.label.proofs.Laws.{join-range}
 use Rattle.program.specs.declared.Command.{Command}
 use Rattle.program.specs.declared.Command.the-variants.{Add, Sub, Pop, Output, Push, Load, Store, Jump, Bnz, Call, Ret}
 use Rattle.program.specs.Command.{Opcode, add, sub, pop, output, push, load, store, jump, bnz, call, ret}
-use Rattle.machine.specs.Atom.{Atom, Entry, value, frame, Line}
+use Rattle.machine.specs.Atom.{Atom, Entry, value, frame, Line, numberLine, endLine}
 use Rattle.machine.specs.Rule.{Input, present, missing, Verdict, denied, allowed, Policy, Ruler, rules, standard}
 use Rattle.machine.specs.Rule.{labelOf, allowedIf, rule}
 use Rattle.machine.specs.State.{State, stackFull, outputFull}
 use Rattle.machine.specs.Step.{Request, halt, ask, stackLimit, withValue, withValues, withFrame, withCell, atom}
 use Rattle.machine.specs.Step.{branch, keyOf, decide, consult, request, execute}
-use Rattle.machine.specs.Run.{step, run}
+use Rattle.machine.specs.Run.{step, closed, run}
 use Rattle.machine.specs.Stopped.{CommandAt}
 use Rattle.machine.specs.Holds.{Each, AtomHas, EntryHas, LineHas, Holds, LabelsInRange, NumbersSigned, InputHas, Answers, ProgramHas}
 use Rattle.machine.proofs.Request.{At, here, there, value-all, values-all, frame-all, cell-all, provided-all}
@@ -106,7 +106,7 @@ module _ (N : ℤ → Type 0) (L : ℕ → Type 0) (s : State) (h : Holds N L s)
           tt,
           tt,
           λ p r hp hr.
-              let written : Each (LineHas N L) (s .lines ++ (record { number = a .number; label = r } ∷ [])) =
+              let written : Each (LineHas N L) (s .lines ++ (numberLine (a .number) r ∷ [])) =
               each-snoc (LineHas N L) (s .lines) _ (h .lines) (ha .0, hr) in
               provided-all (Gives (Holds N L)) (ltb (length (s .lines)) room) outputFull _
               (λ e. record { pc = (on, hp); stack = hs; memory = h .memory; lines = written })
@@ -147,6 +147,16 @@ module _ (N : ℤ → Type 0) (L : ℕ → Type 0) (s : State) (h : Holds N L s)
         values-keeps _ (λ a b rest ha hb hs. (ha .1, tt, tt, λ p r hp hr. moved (ha .0, hp) (hb, ((on, hr), hs))))
     request-keeps room Ret at = frame-keeps _ (λ a rest ha hs. (ha .1, tt, tt, λ p r hp hr. moved (ha .0, hp) hs))
 
+-- the end line has the number 0 and the place label
+closed-holds : (N : ℤ → Type 0) (L : ℕ → Type 0) → N (pos 0) → (s : State) → Holds N L s → Holds N L (closed s)
+closed-holds N L nought s h =
+    record {
+      pc = h .pc;
+      stack = h .stack;
+      memory = h .memory;
+      lines = each-snoc (LineHas N L) (s .lines) (endLine (s .pc .label)) (h .lines) (nought, h .pc .1);
+    }
+
 module _ (N : ℤ → Type 0) (L : ℕ → Type 0) (wraps : (z : ℤ) → N (wrap z)) (cs : List Command) (has : ProgramHas N cs) where
   module _ (π : Policy) (answers : Answers L π) where
     consult-holds : (c : Command) (s : State) (h : Holds N L s) (q : Request)
@@ -170,11 +180,12 @@ module _ (N : ℤ → Type 0) (L : ℕ → Type 0) (wraps : (z : ℤ) → N (wra
         (λ e. tt)
 
   -- of a ruler that answers with such labels in every state
-  pub run-holds : {R : Type 0} (ρ : Ruler R) → ((u : R) → Answers L (rules ρ u)) → (room fuel : ℕ) (s : State) (u : R)
+  pub run-holds : {R : Type 0} (ρ : Ruler R) → N (pos 0) → ((u : R) → Answers L (rules ρ u)) → (room fuel : ℕ) (s : State) (u : R)
       → Holds N L s → Holds N L (run ρ room cs fuel s u .state)
-  run-holds ρ answers room fuel s u h =
+  run-holds ρ nought answers room fuel s u h =
       run-keeps ρ room cs (Holds N L)
-      (λ s t u e g. gives-stepped (Holds N L) e (step-holds (rules ρ u) (answers u) room s g)) fuel s u h
+      (λ s t u at e g. gives-stepped (Holds N L) e (step-holds (rules ρ u) (answers u) room s g))
+      (λ s at f g. closed-holds N L nought s g) fuel s u h
 
 -- ════════════════════════════════════════════════════════════════════════════════════════════
 -- Labels in range
@@ -190,7 +201,7 @@ step-range π answers room cs s h = step-holds (λ n. Unit) InRange (λ z. tt) c
 
 pub run-range : {R : Type 0} (ρ : Ruler R) → ((u : R) → Answers InRange (rules ρ u)) → (room : ℕ) (cs : List Command) (fuel : ℕ)
     (s : State) (u : R) → LabelsInRange s → LabelsInRange (run ρ room cs fuel s u .state)
-run-range ρ answers room cs fuel s u h = run-holds (λ n. Unit) InRange (λ z. tt) cs (anything cs) ρ answers room fuel s u h
+run-range ρ answers room cs fuel s u h = run-holds (λ n. Unit) InRange (λ z. tt) cs (anything cs) ρ tt answers room fuel s u h
 
 -- the standard policy's answers are in range
 abbrev InRangeVerdict : Verdict → Type 0
@@ -268,4 +279,4 @@ program-signed cs h pushed branched =
 pub run-numbers : {R : Type 0} (ρ : Ruler R) (room : ℕ) (cs : List Command) → ProgramHas (Signed 64) cs
     → (fuel : ℕ) (s : State) (u : R) → NumbersSigned s → NumbersSigned (run ρ room cs fuel s u .state)
 run-numbers ρ room cs has fuel s u h =
-    run-holds (Signed 64) (λ l. Unit) wrap-signed cs has ρ (λ u k p r g e. (tt, tt)) room fuel s u h
+    run-holds (Signed 64) (λ l. Unit) wrap-signed cs has ρ (omega arith) (λ u k p r g e. (tt, tt)) room fuel s u h

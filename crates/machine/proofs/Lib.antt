@@ -7,3 +7,4 @@ pub mod Alike
 pub mod Holds
 pub mod Asked
 pub mod Privacy
+pub mod End

@@ -7,23 +7,26 @@
 -- Assumes nothing.
 mod Seen
 mod Erasure
-mod Effect
+pub mod Effect
 mod Act
 mod Move
 use mathlib.Core.Path.{_≡_, refl, sym, ap, subst, _∙_}
 use mathlib.Core.Logic.{inl, inr}
+use mathlib.Core.Bool.{true, false}
 use mathlib.Core.List.{List, map}
 use Prim.Native.Nat.{ℕ, suc}
+use lib.ListN.{length}
 use Rattle.label.specs.Label.{flows}
 use Rattle.program.specs.declared.Command.{Command}
 use Rattle.machine.specs.Atom.{Atom}
 use Rattle.machine.specs.Rule.{Ruler, rules, fixed, standard}
 use Rattle.machine.specs.State.{State, start}
-use Rattle.machine.specs.Run.{step, run}
+use Rattle.machine.specs.Run.{atEnd, step, closed, run}
 use Rattle.machine.specs.Claim.{Alike, none, same, hidden, Refines, Private, Claim}
-use Rattle.machine.proofs.Step.{Gives, gives-map, gives-stepped, step-all, run-keeps, execute-refines}
+use Rattle.machine.proofs.Step.{Gives, gives-stepped, step-all, run-keeps, execute-refines}
 use Rattle.machine.proofs.Privacy.Seen.{see, see-outside}
-use Rattle.machine.proofs.Privacy.Erasure.{View, erase, trim, actAt, move, moves}
+use Rattle.machine.proofs.Privacy.Erasure.{View, erase, trim, endOf, actAt, move, moves}
+use Rattle.machine.proofs.Privacy.Effect.{view-append, see-line}
 use Rattle.machine.proofs.Privacy.Act.{act-shows}
 use Rattle.machine.proofs.Privacy.Move.{Moves, at-moves, moves-start, moves-suc}
 
@@ -34,12 +37,19 @@ alike-see (same alike) = rw (alike-see alike)
 alike-see {S} (hidden {a = a} {b = b} out out′ alike) = rw (see-outside S a out, see-outside S b out′, alike-see alike)
 
 module _ {R : Type 0} (ρ : Ruler R) (refines : Refines ρ) (room : ℕ) (cs : List Command) (S : ℕ) where
-  -- a step is seen as the command at its place
-  step-shows : (s : State) (u : R) → Gives (λ t. erase S t ≡ actAt cs (s .pc .number) (erase S s)) (step (rules ρ u) room cs s)
-  step-shows s u =
-      step-all (rules ρ u) room s (Gives (λ t. erase S t ≡ actAt cs (s .pc .number) (erase S s))) cs
-      (λ c at. rw at (execute-refines (rules ρ u) (refines u) _ room c s (act-shows S room c s)))
+  -- the state t is seen as what the place of s makes of what is seen of s
+  abbrev Shows : State → State → Type 0
+  Shows s t = erase S t ≡ actAt cs (s .pc .number) (erase S s)
+
+  -- so is a step, and so is the end line
+  step-shows : (s : State) (u : R) → atEnd (length cs) (s .pc .number) ≡ false → Gives (λ t. Shows s t) (step (rules ρ u) room cs s)
+  step-shows s u e =
+      step-all (rules ρ u) room s (Gives (λ t. Shows s t)) cs
+      (λ c at. rw (e, at) (execute-refines (rules ρ u) (refines u) _ room c s (act-shows S room c s)))
       (λ out. tt)
+
+  closed-shows : (s : State) → atEnd (length cs) (s .pc .number) ≡ true → Shows s (closed s)
+  closed-shows s e = rw (e, view-append, see-line S endOf (s .pc) refl)
 
   -- what is seen of a state; a step leaves it or moves it
   abbrev seen : State → View
@@ -48,28 +58,27 @@ module _ {R : Type 0} (ρ : Ruler R) (refines : Refines ρ) (room : ℕ) (cs : L
   abbrev Moved : State → State → Type 0
   Moved s t = Moves cs (erase S s) (erase S t)
 
-  step-moves : (s : State) (u : R) → Gives (Moved s) (step (rules ρ u) room cs s)
+  shows-moves : (s t : State) → Shows s t → Moved s t
   unfolding see
-  step-moves s u =
-      gives-map (λ t. erase S t ≡ actAt cs (s .pc .number) (erase S s)) (Moved s)
-      (λ t e. subst (Moves cs (erase S s)) (sym e) (at-moves cs (flows (s .pc .label) S) (s .pc) _ _ _))
-      (step (rules ρ u) room cs s) (step-shows s u)
+  shows-moves s t e = subst (Moves cs (erase S s)) (sym e) (at-moves cs (flows (s .pc .label) S) (s .pc) _ _ _)
 
   -- some number of moves leads from a view to what is seen of a state
   abbrev Reached : View → State → Type 0
   Reached v s = (n : ℕ) × (seen s ≡ moves cs n v)
 
-  step-reaches : (v : View) (s : State) (u : R) → Reached v s → Gives (Reached v) (step (rules ρ u) room cs s)
-  step-reaches v s u (n, e) = gives-map (Moved s) (Reached v) go (step (rules ρ u) room cs s) (step-moves s u)
+  shows-reaches : (v : View) (s t : State) → Reached v s → Shows s t → Reached v t
+  shows-reaches v s t (n, e) d = go (shows-moves s t d)
     where
-      go : (t : State) → Moved s t → Reached v t
-      go t (inl f) = (n, f ∙ e)
-      go t (inr f) = (suc n, f ∙ ap (move cs) e ∙ sym (moves-suc cs n v))
+      go : Moved s t → Reached v t
+      go (inl f) = (n, f ∙ e)
+      go (inr f) = (suc n, f ∙ ap (move cs) e ∙ sym (moves-suc cs n v))
 
   run-reaches : (fuel : ℕ) (s : State) (u : R) → Reached (seen s) (run ρ room cs fuel s u .state)
   run-reaches fuel s u =
       run-keeps ρ room cs (Reached (seen s))
-      (λ v t w e h. gives-stepped (Reached (seen s)) e (step-reaches (seen s) v w h)) fuel s u (0, refl)
+      (λ v t w at e h. shows-reaches (seen s) v t h (gives-stepped (Shows v) e (step-shows v w at)))
+      (λ v at f h. shows-reaches (seen s) v (closed v) h (closed-shows v at))
+      fuel s u (0, refl)
 
 pub privacy : Claim
 privacy Q R σ ρ refines₁ refines₂ cs S cells₁ cells₂ alike room₁ room₂ fuel₁ fuel₂ u v =

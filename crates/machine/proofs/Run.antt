@@ -1,21 +1,22 @@
 -- Runs: why they stop, how many steps they take, that fuel adds up, and what they leave of lines, cells and stack.
 -- Assumes nothing.
 use mathlib.Core.Path.{_≡_, refl, ap, _∙_}
-use mathlib.Core.Logic.{_≢_}
-use mathlib.Core.Bool.{true, false}
-use mathlib.Core.List.{List, [], _++_, append-nil, append-assoc}
-use Prim.Native.Nat.{ℕ, zero, suc, _+_, _≤_}
+use mathlib.Core.Logic.{_≢_, inl, inr}
+use mathlib.Core.Bool.{Bool, true, false}
+use mathlib.Core.List.{List, [], _∷_, _++_, append-nil, append-assoc}
+use Prim.Native.Nat.{ℕ, zero, suc, _+_, _≤_, _<_}
 use native.Mathlib.Nat.{zero-add, suc-add}
 use native.Mathlib.Omega.{arith}
 use lib.IntN.{ℤ, pos, negsuc}
-use lib.ListN.{length}
-use borrow.Author.Tests.{eqb-true, eqb-false}
+use lib.ListN.{length, length-append}
+use lib.Dec.{ltb, eqb}
+use borrow.Author.Tests.{eqb-true, eqb-false, ne-eqb, ltb-true, ltb-false}
 use Rattle.program.specs.declared.Command.{Command}
-use Rattle.machine.specs.Atom.{Line}
+use Rattle.machine.specs.Atom.{Line, endLine}
 use Rattle.machine.specs.Rule.{Policy, Ruler, rules}
-use Rattle.machine.specs.State.{State, Stop, end, fuelSpent, pcOutside}
+use Rattle.machine.specs.State.{State, Stop, fuelSpent, pcOutside, stopNumber}
 use Rattle.machine.specs.Step.{Outcome, stopped, stepped, stackLimit, execute}
-use Rattle.machine.specs.Run.{atEnd, step, asked, Result, result, run, along, spent, continue}
+use Rattle.machine.specs.Run.{atEnd, step, asked, Result, result, closed, finish, run, along, spent, continue}
 use Rattle.machine.specs.Stopped.{Counted, CommandAt, NoCommandAt, Stopped}
 use Rattle.machine.proofs.Step.{step-all, run-induction, run-keeps}
 use Rattle.machine.proofs.Execute.{Change, Cause, no-value, no-frame, no-cell, no-leave, no-room, no-line}
@@ -47,18 +48,21 @@ module _ (π : Policy) (room : ℕ) (cs : List Command) where
   stopped-explained : {s : State} {x : Stop} → step π room cs s ≡ stopped x → Halt π room cs s x
   stopped-explained {s} e = rw e at (step-explained s)
 
-  stepped-explained : {s t : State} → step π room cs s ≡ stepped t → Change room s t
+  pub stepped-explained : {s t : State} → step π room cs s ≡ stepped t → Change room s t
   stepped-explained {s} e = rw e at (step-explained s)
 
-  -- no command stops for spent fuel
-  halt-unspent : {s : State} {x : Stop} → Halt π room cs s x → spent x ≡ false
-  halt-unspent (outside h) = refl
-  halt-unspent (inside c at (no-value h)) = refl
-  halt-unspent (inside c at (no-frame h)) = refl
-  halt-unspent (inside c at (no-cell h)) = refl
-  halt-unspent (inside c at (no-leave h)) = refl
-  halt-unspent (inside c at (no-room h g)) = refl
-  halt-unspent (inside c at (no-line h g)) = refl
+  -- no command stops at the end or for spent fuel
+  halt-number : {s : State} {x : Stop} → Halt π room cs s x → 2 ≤ stopNumber x
+  halt-number (outside h) = omega arith
+  halt-number (inside c at (no-value h)) = omega arith
+  halt-number (inside c at (no-frame h)) = omega arith
+  halt-number (inside c at (no-cell h)) = omega arith
+  halt-number (inside c at (no-leave h)) = omega arith
+  halt-number (inside c at (no-room h g)) = omega arith
+  halt-number (inside c at (no-line h g)) = omega arith
+
+  pub stopped-other : (s : State) {x : Stop} (n : ℕ) → n < 2 → step π room cs s ≡ stopped x → eqb (stopNumber x) n ≡ false
+  stopped-other s {x} n h e = ne-eqb (stopNumber x) n (λ f. omega (arith, halt-number (stopped-explained e)))
 
   -- ══════════════════════════════════════════════════════════════════════════════════════════
   -- Stops
@@ -71,7 +75,7 @@ module _ (π : Policy) (room : ℕ) (cs : List Command) where
   halt-stopped e (inside c at (no-cell h)) = (c, at, h)
   halt-stopped e (inside c at (no-leave h)) = (c, at, h)
   halt-stopped e (inside c at (no-room h g)) = (c, at, (h, g))
-  halt-stopped e (inside c at (no-line h g)) = (c, at, (h, g))
+  halt-stopped e (inside c at (no-line h g)) = (inl (c, at, h), g)
 
 at-end : (n : ℕ) (z : ℤ) → atEnd n z ≡ true → z ≡ pos n
 at-end n (pos i) e = ap pos (eqb-true i n e)
@@ -87,7 +91,8 @@ module _ {R : Type 0} (ρ : Ruler R) (room : ℕ) (cs : List Command) where
       → let r : Result R = run ρ room cs fuel s u in (v : R) × Stopped (rules ρ v) room cs (r .state) (r .stop)
   run-stop =
       run-induction ρ room cs (λ fuel s u r. (v : R) × Stopped (rules ρ v) room cs (r .state) (r .stop))
-      (λ fuel s u e. (u, at-end _ _ e))
+      (λ fuel s u e f. (u, (at-end _ _ e, (s .lines, refl))))
+      (λ fuel s u e f. (u, (inr (at-end _ _ e), ltb-false _ _ f)))
       (λ s u e. (u, not-at-end _ _ e))
       (λ fuel s u x e g. (u, halt-stopped (rules ρ u) room cs (not-at-end _ _ e) (stopped-explained (rules ρ u) room cs g)))
       (λ fuel s t u r e g h. h)
@@ -99,10 +104,11 @@ module _ {R : Type 0} (ρ : Ruler R) (room : ℕ) (cs : List Command) where
   pub run-steps : (fuel : ℕ) (s : State) (u : R) → Counted fuel s (run ρ room cs fuel s u)
   run-steps =
       run-induction ρ room cs (λ fuel s u r. Counted fuel s r)
-      (λ fuel s u e. record { least = omega arith; most = omega arith; all = λ f. cc })
+      (λ fuel s u e f. record { least = omega arith; most = omega arith; all = λ g. cc })
+      (λ fuel s u e f. record { least = omega arith; most = omega arith; all = λ g. cc })
       (λ s u e. record { least = omega arith; most = omega arith; all = λ f. omega arith })
       (λ fuel s u x e g.
-      let h : spent x ≡ false = halt-unspent (rules ρ u) room cs (stopped-explained (rules ρ u) room cs g) in
+      let h : spent x ≡ false = stopped-other (rules ρ u) room cs s 1 (omega arith) g in
       record { least = omega arith; most = omega arith; all = λ f. cc })
       (λ fuel s t u r e g h.
       let c : Change room s t = stepped-explained (rules ρ u) room cs g in
@@ -113,7 +119,8 @@ module _ {R : Type 0} (ρ : Ruler R) (room : ℕ) (cs : List Command) where
   -- ══════════════════════════════════════════════════════════════════════════════════════════
 
   -- a run that has ended
-  pub run-end : (fuel : ℕ) (s : State) (u : R) → atEnd (length cs) (s .pc .number) ≡ true → run ρ room cs fuel s u ≡ result end s u
+  pub run-end : (fuel : ℕ) (s : State) (u : R) → atEnd (length cs) (s .pc .number) ≡ true
+      → run ρ room cs fuel s u ≡ finish (ltb (length (s .lines)) room) s u
   unfolding run
   run-end zero s u e = rw e
   run-end (suc fuel) s u e = rw e
@@ -156,10 +163,10 @@ module _ {R : Type 0} (ρ : Ruler R) (room : ℕ) (cs : List Command) where
   unfolding continue
   run-add a b s u =
       run-induction ρ room cs (λ a s u r. run ρ room cs (a + b) s u ≡ continue ρ room cs b r)
-      (λ a s u e. run-end (a + b) s u e)
+      (λ a s u e f. run-end (a + b) s u e ∙ ap (λ (x : Bool). finish x s u) f)
+      (λ a s u e f. run-end (a + b) s u e ∙ ap (λ (x : Bool). finish x s u) f)
       (λ s u e. rw zero-add)
-      (λ a s u x e g.
-      rw (suc-add, run-stopped s u e (a + b) x g, halt-unspent (rules ρ u) room cs (stopped-explained (rules ρ u) room cs g)))
+      (λ a s u x e g. rw (suc-add, run-stopped s u e (a + b) x g, stopped-other (rules ρ u) room cs s 1 (omega arith) g))
       (λ a s t u r e g h. rw (suc-add, run-stepped s u e (a + b) t g) h)
       a s u
 
@@ -167,27 +174,35 @@ module _ {R : Type 0} (ρ : Ruler R) (room : ℕ) (cs : List Command) where
   -- What a run leaves
   -- ══════════════════════════════════════════════════════════════════════════════════════════
 
-  -- what every change keeps, a run keeps
+  -- what every change keeps, and the end line, a run keeps
   run-change : (P : State → Type 0) → ((s t : State) → Change room s t → P s → P t)
+      → ((s : State) → ltb (length (s .lines)) room ≡ true → P s → P (closed s))
       → (fuel : ℕ) (s : State) (u : R) → P s → P (run ρ room cs fuel s u .state)
-  run-change P f = run-keeps ρ room cs P (λ s t u e h. f s t (stepped-explained (rules ρ u) room cs e) h)
+  run-change P f g =
+      run-keeps ρ room cs P (λ s t u at e h. f s t (stepped-explained (rules ρ u) room cs e) h) (λ s at e h. g s e h)
 
   -- lines are only added, and never more than fit
   pub run-lines : (fuel : ℕ) (s : State) (u : R) → (more : List Line) × (run ρ room cs fuel s u .state .lines ≡ s .lines ++ more)
-  run-lines fuel s u = run-change (λ t. (more : List Line) × (t .lines ≡ s .lines ++ more)) go fuel s u ([], rw append-nil)
+  run-lines fuel s u = run-change (λ t. (more : List Line) × (t .lines ≡ s .lines ++ more)) go close fuel s u ([], rw append-nil)
     where
       go : (v t : State) → Change room v t → (more : List Line) × (v .lines ≡ s .lines ++ more)
           → (more : List Line) × (t .lines ≡ s .lines ++ more)
       go v t c (ls, e) = (ls ++ c .lines .0, rw (c .lines .1, e, append-assoc))
 
+      close : (v : State) → ltb (length (v .lines)) room ≡ true → (more : List Line) × (v .lines ≡ s .lines ++ more)
+          → (more : List Line) × (closed v .lines ≡ s .lines ++ more)
+      close v f (ls, e) = (ls ++ (endLine (v .pc .label) ∷ []), rw (e, append-assoc))
+
   pub run-fits : (fuel : ℕ) (s : State) (u : R) → length (s .lines) ≤ room → length (run ρ room cs fuel s u .state .lines) ≤ room
-  run-fits = run-change (λ t. length (t .lines) ≤ room) (λ s t c h. c .fits h)
+  run-fits =
+      run-change (λ t. length (t .lines) ≤ room) (λ s t c h. c .fits h)
+      (λ s f h. rw length-append (omega (arith, ltb-true (length (s .lines)) room f)))
 
   -- the cells stay as many
   pub run-memory : (fuel : ℕ) (s : State) (u : R) → length (run ρ room cs fuel s u .state .memory) ≡ length (s .memory)
-  run-memory fuel s u = run-change (λ t. length (t .memory) ≡ length (s .memory)) (λ v t c e. c .memory ∙ e) fuel s u refl
+  run-memory fuel s u = run-change (λ t. length (t .memory) ≡ length (s .memory)) (λ v t c e. c .memory ∙ e) (λ v f e. e) fuel s u refl
 
   -- the stack stays within its limit
   pub run-depth : (fuel : ℕ) (s : State) (u : R)
       → length (s .stack) ≤ stackLimit → length (run ρ room cs fuel s u .state .stack) ≤ stackLimit
-  run-depth = run-change (λ t. length (t .stack) ≤ stackLimit) (λ s t c h. c .depth h)
+  run-depth = run-change (λ t. length (t .stack) ≤ stackLimit) (λ s t c h. c .depth h) (λ s f h. h)

@@ -7,21 +7,19 @@ use mathlib.Core.List.{List}
 use mathlib.Core.Option.{Option, none, some}
 use Prim.Native.Nat.{ℕ, zero, suc}
 use lib.ListN.{length}
+use lib.Dec.{ltb}
 use Rattle.program.specs.declared.Command.{Command}
 use Rattle.machine.specs.Rule.{Key, Verdict, denied, allowed, Policy, Ruler, rules, fixed, standard}
-use Rattle.machine.specs.State.{State, Stop, end, fuelSpent, pcOutside}
+use Rattle.machine.specs.State.{State, Stop, end, fuelSpent, pcOutside, outputFull}
 use Rattle.machine.specs.Step.{Outcome, stopped, stepped, Request, halt, ask, decide, consult, execute, request}
-use Rattle.machine.specs.Run.{commandAt, executeSome, step, askedBy, askedSome, asked, atEnd, Result, result, after, unlessEnd, run}
+use Rattle.machine.specs.Run.{commandAt, executeSome, step, askedBy, askedSome, asked, atEnd, Result, result, after, closed}
+use Rattle.machine.specs.Run.{finish, unlessEnd, run}
 use Rattle.machine.specs.Stopped.{CommandAt, NoCommandAt}
 
 -- the state that a step gives has the property; a stopped command gives none
 abbrev pub Gives : (State → Type 0) → Outcome → Type 0
 Gives P (stopped x) = Unit
 Gives P (stepped t) = P t
-
-pub gives-map : (P Q : State → Type 0) → ((t : State) → P t → Q t) → (o : Outcome) → Gives P o → Gives Q o
-gives-map P Q f (stopped x) g = tt
-gives-map P Q f (stepped t) g = f t g
 
 pub gives-stepped : (P : State → Type 0) {o : Outcome} {t : State} → o ≡ stepped t → Gives P o → P t
 gives-stepped P e g = rw e at g
@@ -63,10 +61,13 @@ module _ (room : ℕ) (s : State) (cs : List Command) (out : NoCommandAt cs (s .
   unfolding asked
   asked-none ρ u = rw out
 
--- induction over runs: what holds of a run that has ended, that has no fuel or that is stopped, and of one that takes a
--- step where it holds of the rest
+-- induction over runs: what holds of a run that has ended, with room for its end line or without, that has no fuel or that is stopped, and
+-- of one that takes a step where it holds of the rest
 module _ {R : Type 0} (ρ : Ruler R) (room : ℕ) (cs : List Command) (Q : ℕ → State → R → Result R → Type 0)
-    (ends : (fuel : ℕ) (s : State) (u : R) → atEnd (length cs) (s .pc .number) ≡ true → Q fuel s u (result end s u))
+    (ends : (fuel : ℕ) (s : State) (u : R) → atEnd (length cs) (s .pc .number) ≡ true → ltb (length (s .lines)) room ≡ true
+    → Q fuel s u (result end (closed s) u))
+    (fills : (fuel : ℕ) (s : State) (u : R) → atEnd (length cs) (s .pc .number) ≡ true → ltb (length (s .lines)) room ≡ false
+    → Q fuel s u (result outputFull s u))
     (spends : (s : State) (u : R) → atEnd (length cs) (s .pc .number) ≡ false → Q zero s u (result fuelSpent s u))
     (stops : (fuel : ℕ) (s : State) (u : R) (x : Stop) → atEnd (length cs) (s .pc .number) ≡ false
     → step (rules ρ u) room cs s ≡ stopped x → Q (suc fuel) s u (result x s (asked ρ room cs s u)))
@@ -79,9 +80,14 @@ module _ {R : Type 0} (ρ : Ruler R) (room : ℕ) (cs : List Command) (Q : ℕ �
   after-all fuel s u e (stopped x) g h = stops fuel s u x e g
   after-all fuel s u e (stepped t) g h = goes fuel s t u _ e g (h t _)
 
+  finish-all : (fuel : ℕ) (s : State) (u : R) → atEnd (length cs) (s .pc .number) ≡ true
+      → (b : Bool) → ltb (length (s .lines)) room ≡ b → Q fuel s u (finish b s u)
+  finish-all fuel s u e true f = ends fuel s u e f
+  finish-all fuel s u e false f = fills fuel s u e f
+
   unless-all : (fuel : ℕ) (s : State) (u : R) (r : Result R) (b : Bool) → atEnd (length cs) (s .pc .number) ≡ b
-      → (b ≡ false → Q fuel s u r) → Q fuel s u (unlessEnd b s u r)
-  unless-all fuel s u r true e h = ends fuel s u e
+      → (b ≡ false → Q fuel s u r) → Q fuel s u (unlessEnd room b s u r)
+  unless-all fuel s u r true e h = finish-all fuel s u e _ refl
   unless-all fuel s u r false e h = h refl
 
   pub run-induction : (fuel : ℕ) (s : State) (u : R) → Q fuel s u (run ρ room cs fuel s u)
@@ -89,16 +95,18 @@ module _ {R : Type 0} (ρ : Ruler R) (room : ℕ) (cs : List Command) (Q : ℕ �
   run-induction zero s u = unless-all zero s u _ _ refl (λ e. spends s u e)
   run-induction (suc fuel) s u = unless-all (suc fuel) s u _ _ refl (λ e. after-all fuel s u e _ refl (run-induction fuel))
 
--- what every step keeps, a run keeps
+-- what every step keeps, and the end line, a run keeps
 pub run-keeps : {R : Type 0} (ρ : Ruler R) (room : ℕ) (cs : List Command) (P : State → Type 0)
-    → ((s t : State) (u : R) → step (rules ρ u) room cs s ≡ stepped t → P s → P t)
+    → ((s t : State) (u : R) → atEnd (length cs) (s .pc .number) ≡ false → step (rules ρ u) room cs s ≡ stepped t → P s → P t)
+    → ((s : State) → atEnd (length cs) (s .pc .number) ≡ true → ltb (length (s .lines)) room ≡ true → P s → P (closed s))
     → (fuel : ℕ) (s : State) (u : R) → P s → P (run ρ room cs fuel s u .state)
-run-keeps ρ room cs P keeps =
+run-keeps ρ room cs P keeps closes =
     run-induction ρ room cs (λ fuel s u r. P s → P (r .state))
-    (λ fuel s u e h. h)
+    (λ fuel s u e f h. closes s e f h)
+    (λ fuel s u e f h. h)
     (λ s u e h. h)
     (λ fuel s u x e g h. h)
-    (λ fuel s t u r e g f h. f (keeps s t u g h))
+    (λ fuel s t u r e g f h. f (keeps s t u e g h))
 
 -- what a step under the standard policy gives, it gives under a policy that refines it
 module _ (π : Policy) (refines : (k : Key) (p r : ℕ) → π k ≡ allowed p r → standard k ≡ allowed p r) (P : State → Type 0) where

@@ -1,6 +1,8 @@
 -- Atoms, stack entries and output lines.
 use Prim.Native.Nat.{ℕ}
-use lib.IntN.{ℤ}
+use lib.IntN.{ℤ, pos}
+use Rattle.machine.specs.declared.Kind.{Kind}
+use Rattle.machine.specs.declared.Kind.the-variants.{Number, End}
 
 -- an atom: a number with a label
 pub record Atom : Type 0 where
@@ -12,7 +14,16 @@ pub data Entry : Type 0 where
   value : Atom → Entry
   frame : Atom → Entry
 
--- a line: the number that an Output drops, with that Output's result label
+-- a line: its kind, its number and its label; two lines are equal exactly if all three are
 pub record Line : Type 0 where
+  pub kind : Kind
   pub number : ℤ
   pub label : ℕ
+
+-- an Output's: the number that it drops, with its result label
+abbrev pub numberLine : ℤ → ℕ → Line
+numberLine n l = record { kind = Number; number = n; label = l }
+
+-- the last line of a run that met stop 0: "end", its number 0, with the place label
+abbrev pub endLine : ℕ → Line
+endLine p = record { kind = End; number = pos 0; label = p }

@@ -48,15 +48,19 @@ abbrev pub Refines : {R : Type 0} → Ruler R → Type 0
 Refines {R} ρ = (u : R) (k : Key) (p r : ℕ) → rules ρ u k ≡ allowed p r → standard k ≡ allowed p r
 
 -- for every program, every set of owners and any two starts from alike cells, each under a ruler of its own, whatever that keeps and
--- whatever allowance and output space either has: of the two views one is the start of the other
-abbrev pub Private : {Q R : Type 0} → Ruler Q → Ruler R → Type 0
-Private {Q} {R} σ ρ =
+-- whatever allowance and output space either has: so are the two views
+abbrev pub Views : (List Line → List Line → Type 0) → {Q R : Type 0} → Ruler Q → Ruler R → Type 0
+Views So {Q} {R} σ ρ =
     (program : List Command) (S : ℕ) (cells₁ cells₂ : List Atom) →
     Alike S cells₁ cells₂ →
     (room₁ room₂ fuel₁ fuel₂ : ℕ) (u : Q) (v : R) →
-    OneStartsOther
+    So
     (view S (run σ room₁ program fuel₁ (start cells₁) u .state .lines))
     (view S (run ρ room₂ program fuel₂ (start cells₂) v .state .lines))
+
+-- one is the start of the other
+abbrev pub Private : {Q R : Type 0} → Ruler Q → Ruler R → Type 0
+Private σ ρ = Views OneStartsOther σ ρ
 
 abbrev pub Claim : Type 1
 Claim = (Q R : Type 0) (σ : Ruler Q) (ρ : Ruler R) → Refines σ → Refines ρ → Private σ ρ

@@ -6,3 +6,4 @@ pub mod Run
 pub mod Stopped
 pub mod Holds
 pub mod Claim
+pub mod End

@@ -2,15 +2,16 @@
 use Prim.Native.Nat.{ℕ, zero, suc}
 use mathlib.Core.Path.{_≡_}
 use mathlib.Core.Bool.{Bool, true, false}
-use mathlib.Core.List.{List}
+use mathlib.Core.List.{List, [], _∷_, _++_}
 use mathlib.Core.Option.{Option, none, some}
 use lib.IntN.{ℤ, pos, negsuc}
 use lib.ListN.{length, getElem?}
-use lib.Dec.{eqb}
+use lib.Dec.{eqb, ltb}
 use Rattle.word.specs.Choose.{choose}
 use Rattle.program.specs.declared.Command.{Command}
+use Rattle.machine.specs.Atom.{endLine}
 use Rattle.machine.specs.Rule.{Policy, Ruler, rules}
-use Rattle.machine.specs.State.{State, Stop, end, fuelSpent, pcOutside, stopNumber}
+use Rattle.machine.specs.State.{State, Stop, end, fuelSpent, pcOutside, outputFull, stopNumber}
 use Rattle.machine.specs.Step.{Outcome, stopped, stepped, Request, halt, ask, request, keyOf, execute}
 
 -- does the place equal the number of commands?
@@ -62,18 +63,35 @@ abbrev pub after : {R : Type 0} → Outcome → State → R → (State → Resul
 after (stopped x) s u k = result x s u
 after (stepped t) s u k = k t
 
-abbrev pub unlessEnd : {R : Type 0} → Bool → State → R → Result R → Result R
-unlessEnd true s u r = result end s u
-unlessEnd false s u r = r
+-- the end line is written, and nothing else changes: it is no step, asks no rule and no allowance
+abbrev pub closed : State → State
+closed s =
+    record {
+      pc = s .pc;
+      stack = s .stack;
+      memory = s .memory;
+      lines = s .lines ++ (endLine (s .pc .label) ∷ []);
+      steps = s .steps;
+    }
+
+-- at the end: stop 0, which writes the end line; without output space for it stop 8, and nothing changes
+abbrev pub finish : {R : Type 0} → (fits : Bool) → State → R → Result R
+finish true s u = result end (closed s) u
+finish false s u = result outputFull s u
+
+-- where the place equals the number of commands, else r
+abbrev pub unlessEnd : {R : Type 0} → ℕ → Bool → State → R → Result R → Result R
+unlessEnd room true s u r = finish (ltb (length (s .lines)) room) s u
+unlessEnd room false s u r = r
 
 module _ {R : Type 0} (ρ : Ruler R) (room : ℕ) (cs : List Command) where
   -- from the state s with at most `fuel` steps
   unfoldable pub run : ℕ → State → R → Result R
-  run zero s u = unlessEnd (atEnd (length cs) (s .pc .number)) s u (result fuelSpent s u)
+  run zero s u = unlessEnd room (atEnd (length cs) (s .pc .number)) s u (result fuelSpent s u)
   run (suc fuel) s u =
       let v : R = asked ρ room cs s u in
       let r : Result R = after (step (rules ρ u) room cs s) s v (λ t. run fuel t v) in
-      unlessEnd (atEnd (length cs) (s .pc .number)) s u r
+      unlessEnd room (atEnd (length cs) (s .pc .number)) s u r
 
 -- two runs, each under a ruler of its own, met the same stop in the same state: lines, cells, steps, place and stack
 pub record Same {Q R : Type 0} (q : Result Q) (r : Result R) : Type 0 where

@@ -9,7 +9,7 @@ use Rattle.word.specs.Wrap.{addWrap, subWrap}
 use Rattle.program.specs.declared.Command.{Command}
 use Rattle.program.specs.declared.Command.the-variants.{Add, Sub, Pop, Output, Push, Load, Store, Jump, Bnz, Call, Ret}
 use Rattle.program.specs.Command.{opcode}
-use Rattle.machine.specs.Atom.{Atom, Entry, value, frame, Line}
+use Rattle.machine.specs.Atom.{Atom, Entry, value, frame, Line, numberLine}
 use Rattle.machine.specs.Rule.{Input, present, missing, Key, Verdict, denied, allowed, Policy}
 use Rattle.machine.specs.State.{State, Stop, valueMissing, frameMissing, addressOutside, denial, stackFull, outputFull}
 
@@ -130,7 +130,7 @@ request room Output s =
     withValue (s .stack) (λ a rest.
     ask (of a) missing missing (λ p r.
     provided (ltb (length (s .lines)) room) outputFull
-    (printing s p rest (record { number = a .number; label = r }))))
+    (printing s p rest (numberLine (a .number) r))))
 request room (Push n) s =
     ask missing missing missing (λ p r.
     provided (ltb (length (s .stack)) stackLimit) stackFull

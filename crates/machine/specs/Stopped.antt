@@ -2,15 +2,16 @@
 -- it of every run.
 use Prim.Native.Nat.{ℕ, _+_, _≤_}
 use mathlib.Core.Path.{_≡_}
-use mathlib.Core.Logic.{_≢_}
+use mathlib.Core.Logic.{_⊎_}
 use mathlib.Core.Bool.{Bool}
 use mathlib.Core.Option.{none, some}
-use mathlib.Core.List.{List}
+use mathlib.Core.List.{List, [], _∷_, _++_}
 use lib.IntN.{ℤ, pos}
 use lib.ListN.{length}
 use lib.Dec.{eqb}
 use Rattle.program.specs.declared.Command.{Command}
 use Rattle.program.specs.Command.{opcode, push, output}
+use Rattle.machine.specs.Atom.{Line, endLine}
 use Rattle.machine.specs.Rule.{Policy, denied}
 use Rattle.machine.specs.State.{State, Stop, end, fuelSpent, pcOutside, valueMissing, frameMissing}
 use Rattle.machine.specs.State.{addressOutside, denial, stackFull, outputFull, stopNumber}
@@ -39,17 +40,25 @@ Denied π c s (ask l1 l2 l3 k) = π (keyOf c s l1 l2 l3) ≡ denied
 abbrev pub Here : List Command → State → (Command → Type 0) → Type 0
 Here cs s P = (c : Command) × CommandAt cs (s .pc .number) c × P c
 
+-- the place equals the number of commands
+abbrev pub AtTheEnd : List Command → State → Type 0
+AtTheEnd cs s = s .pc .number ≡ pos (length cs)
+
+-- the last line that is written
+abbrev pub LastLine : State → Line → Type 0
+LastLine s l = (before : List Line) × (s .lines ≡ before ++ (l ∷ []))
+
 -- the state s, in which the run stopped, for each stop
 abbrev pub Stopped : Policy → ℕ → List Command → State → Stop → Type 0
-Stopped π room cs s end = s .pc .number ≡ pos (length cs)
-Stopped π room cs s fuelSpent = s .pc .number ≢ pos (length cs)
-Stopped π room cs s pcOutside = NoCommandAt cs (s .pc .number) × (s .pc .number ≢ pos (length cs))
+Stopped π room cs s end = AtTheEnd cs s × LastLine s (endLine (s .pc .label))
+Stopped π room cs s fuelSpent = AtTheEnd cs s → ⊥
+Stopped π room cs s pcOutside = NoCommandAt cs (s .pc .number) × (AtTheEnd cs s → ⊥)
 Stopped π room cs s valueMissing = Here cs s (λ c. request room c s ≡ halt valueMissing)
 Stopped π room cs s frameMissing = Here cs s (λ c. request room c s ≡ halt frameMissing)
 Stopped π room cs s addressOutside = Here cs s (λ c. request room c s ≡ halt addressOutside)
 Stopped π room cs s denial = Here cs s (λ c. Denied π c s (request room c s))
 Stopped π room cs s stackFull = Here cs s (λ c. (opcode c ≡ push) × (stackLimit ≤ length (s .stack)))
-Stopped π room cs s outputFull = Here cs s (λ c. (opcode c ≡ output) × (room ≤ length (s .lines)))
+Stopped π room cs s outputFull = (Here cs s (λ c. opcode c ≡ output) ⊎ AtTheEnd cs s) × (room ≤ length (s .lines))
 
 -- is it stop 6?
 abbrev pub denies : Stop → Bool

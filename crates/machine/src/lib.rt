@@ -1,1 +1,7 @@
 // The machine of document 01, as definitions and theorems; it has no code. Read in specs/: Atom, Rule, State, Step, Run; then Claim.
+
+// What a line is: the number of an Output, or the end of the page. What the definitions speak of, and the engines write.
+pub enum Kind {
+    Number,
+    End,
+}

@@ -22,14 +22,15 @@ pub fn execute(
     stack: &mut [i64],
     numbers: &mut [i64],
     line_labels: &mut [i64],
+    kinds: &mut [i64],
     fuel: u64,
 ) -> Answer
     ensures { λ r. ⌜ ended r tt
         (memory (now (program .exit)) (lent (now (stack .exit)) (cells (now (values .exit)) (now (labels .exit))))
-        (output (now (numbers .exit)) (now («line_labels» .exit))))
+        (output (now (numbers .exit)) (now («line_labels» .exit)) (now (kinds .exit))))
         ≡ plain (now (sheet .entry))
         (memory (now (program .entry)) (lent (now (stack .entry)) (cells (now (values .entry)) (now (labels .entry))))
-        (output (now (numbers .entry)) (now («line_labels» .entry))))
+        (output (now (numbers .entry)) (now («line_labels» .entry)) (now (kinds .entry))))
         fuel ⌝ }
 {
     let given = Given {
@@ -43,7 +44,7 @@ pub fn execute(
         Checked::Refused(r) => Answer::Refused(r),
         Checked::Accepted(count) => {
             program::write(sheet, program);
-            let room = engine::room(numbers.len(), line_labels.len());
+            let room = engine::room(numbers.len(), line_labels.len(), kinds.len());
             let ran = run::go(
                 count,
                 room,
@@ -54,6 +55,7 @@ pub fn execute(
                 labels,
                 numbers,
                 line_labels,
+                kinds,
             );
             Answer::Stopped(ran)
         }

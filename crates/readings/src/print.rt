@@ -22,6 +22,10 @@ pub(crate) fn number(n: i64) {
 // A number with a label, as its number.
 pub(crate) fn atom(n: i64, l: Label) {
     number(n);
+    label(l);
+}
+
+pub(crate) fn label(l: Label) {
     text(b" label ");
     count(l.0 as u64);
 }

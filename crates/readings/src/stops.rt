@@ -46,7 +46,7 @@ pub(crate) fn entries() {
 }
 
 // Stops 6 to 8. Cell 1 holds an address 0 with label 1, under which cell 0 is not stored to. A byte 05 repeated is Push after Push. The
-// output space holds two lines.
+// output space holds three lines.
 pub(crate) fn full() {
     on_two(
         b"stop 6, Store at a labelled address: ",
@@ -57,9 +57,12 @@ pub(crate) fn full() {
     on_two(b"256 Push: ", &[5u8; 2304], 5, 1000);
     on_two(b"stop 7, 257 Push: ", &[5u8; 2313], 5, 1000);
     on_two(
-        b"stop 8, a third line: ",
-        b"\x05\x01\0\0\0\0\0\0\0\x04\x05\x02\0\0\0\0\0\0\0\x04\x05\x03\0\0\0\0\0\0\0\x04",
+        b"stop 8, a fourth line: ",
+        b"\x05\0\0\0\0\0\0\0\0\x04\x05\0\0\0\0\0\0\0\0\x04\x05\0\0\0\0\0\0\0\0\x04\x05\0\0\0\0\0\0\0\0\x04",
         5,
         1000,
     );
+    let three = b"\x05\x01\0\0\0\0\0\0\0\x04\x05\x02\0\0\0\0\0\0\0\x04\x05\x03\0\0\0\0\0\0\0\x04";
+    on_two(b"stop 8, no space for the end line: ", three, 5, 1000);
+    on_two(b"stop 8, and the allowance is spent: ", three, 5, 6);
 }

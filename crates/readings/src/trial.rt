@@ -2,26 +2,33 @@
 use crate::memory::digest;
 use crate::print;
 use engine::Answer;
+use engine::Line;
 use engine::Ran;
-use label::Label;
+use machine::Kind;
 use policy::row::Cache;
 use program::Refusal;
+use tagged::Tagged;
 
 fn counted(name: &[u8], n: u64) {
     print::text(name);
     print::count(n);
 }
 
-fn line(number: i64, label: i64) {
+fn line(x: Line) {
+    let kind = x.kind;
     print::text(b" (");
-    print::atom(number, Label::low(label));
+    match kind {
+        Kind::Number => print::number(x.number),
+        Kind::End => print::text(b"end"),
+    }
+    print::label(x.label);
     print::text(b")");
 }
 
-fn lines(numbers: &[i64], labels: &[i64], count: usize) {
+fn lines(numbers: &[i64], labels: &[i64], kinds: &[i64], count: usize) {
     let mut i: usize = 0;
     while i < count {
-        line(word::memory::at(numbers, i), word::memory::at(labels, i));
+        line(engine::line_at(numbers, labels, kinds, i));
         i += 1;
     }
 }
@@ -45,14 +52,24 @@ fn refused(r: Refusal, same: bool) {
     }
 }
 
-fn report(answer: Answer, same: bool, numbers: &[i64], labels: &[i64]) {
+fn report(answer: Answer, same: bool, numbers: &[i64], labels: &[i64], kinds: &[i64]) {
     match answer {
         Answer::Refused(r) => refused(r, same),
         Answer::Stopped(ran) => {
             stopped(ran);
-            lines(numbers, labels, ran.machine.lines);
+            lines(numbers, labels, kinds, ran.machine.lines);
         }
     }
+}
+
+fn report_tagged(r: Tagged, same: bool, numbers: &[i64], labels: &[i64], kinds: &[i64]) {
+    let answer = r.answer;
+    report(answer, same, numbers, labels, kinds);
+    counted(b", faults ", r.faults);
+    counted(b", kernel steps ", r.kernel);
+    print::text(b", rule memory ");
+    print::words(&r.cache.words);
+    print::line();
 }
 
 // All lent words as one number.
@@ -63,22 +80,32 @@ fn lent(
     stack: &[i64],
     numbers: &[i64],
     line_labels: &[i64],
+    kinds: &[i64],
 ) -> u64 {
     let cells = digest(digest(0, values), labels);
     let spaces = digest(digest(cells, program), stack);
-    digest(digest(spaces, numbers), line_labels)
+    digest(digest(digest(spaces, numbers), line_labels), kinds)
 }
 
-// The tag engine under the standard table, with space for 257 commands, the handler and two lines.
+// The tag engine under the standard table, with space for 257 commands, the handler and three lines.
 fn on(sheet: &[u8], values: &mut [i64], labels: &mut [i64], cache: Cache, fuel: u64) {
     let table = policy::standard_table::bytes();
     let mut program = [-7i64; 514];
     let mut stack = [-7i64; 768];
     let mut handler = [-7i64; 302];
-    let mut numbers = [-7i64; 2];
-    let mut line_labels = [-7i64; 2];
+    let mut numbers = [-7i64; 3];
+    let mut line_labels = [-7i64; 3];
+    let mut kinds = [-7i64; 3];
     let before = digest(
-        lent(values, labels, &program, &stack, &numbers, &line_labels),
+        lent(
+            values,
+            labels,
+            &program,
+            &stack,
+            &numbers,
+            &line_labels,
+            &kinds,
+        ),
         &handler,
     );
     let r = tagged::execute(
@@ -92,19 +119,22 @@ fn on(sheet: &[u8], values: &mut [i64], labels: &mut [i64], cache: Cache, fuel: 
         &mut handler,
         &mut numbers,
         &mut line_labels,
+        &mut kinds,
         fuel,
     );
     let after = digest(
-        lent(values, labels, &program, &stack, &numbers, &line_labels),
+        lent(
+            values,
+            labels,
+            &program,
+            &stack,
+            &numbers,
+            &line_labels,
+            &kinds,
+        ),
         &handler,
     );
-    let answer = r.answer;
-    report(answer, before == after, &numbers, &line_labels);
-    counted(b", faults ", r.faults);
-    counted(b", kernel steps ", r.kernel);
-    print::text(b", rule memory ");
-    print::words(&r.cache.words);
-    print::line();
+    report_tagged(r, before == after, &numbers, &line_labels, &kinds);
 }
 
 // The plain engine, so too.
@@ -112,9 +142,18 @@ fn plainly(sheet: &[u8], values: &mut [i64], labels: &mut [i64], fuel: u64) {
     print::text(b"  plain engine: ");
     let mut program = [-7i64; 514];
     let mut stack = [-7i64; 768];
-    let mut numbers = [-7i64; 2];
-    let mut line_labels = [-7i64; 2];
-    let before = lent(values, labels, &program, &stack, &numbers, &line_labels);
+    let mut numbers = [-7i64; 3];
+    let mut line_labels = [-7i64; 3];
+    let mut kinds = [-7i64; 3];
+    let before = lent(
+        values,
+        labels,
+        &program,
+        &stack,
+        &numbers,
+        &line_labels,
+        &kinds,
+    );
     let answer = plain::execute(
         sheet,
         values,
@@ -123,10 +162,19 @@ fn plainly(sheet: &[u8], values: &mut [i64], labels: &mut [i64], fuel: u64) {
         &mut stack,
         &mut numbers,
         &mut line_labels,
+        &mut kinds,
         fuel,
     );
-    let after = lent(values, labels, &program, &stack, &numbers, &line_labels);
-    report(answer, before == after, &numbers, &line_labels);
+    let after = lent(
+        values,
+        labels,
+        &program,
+        &stack,
+        &numbers,
+        &line_labels,
+        &kinds,
+    );
+    report(answer, before == after, &numbers, &line_labels, &kinds);
     print::line();
 }
 

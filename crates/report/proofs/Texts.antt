@@ -16,8 +16,10 @@ use Rattle.word.specs.declared.text.Put.{Put}
 use Rattle.word.proofs.Lay.{laidAt-nil, laidAt-cons, laidAt-append, length-laidAt}
 use Rattle.word.proofs.Laws.Numeral.{numeral-length, digitCount-le, digitCount-within}
 use Rattle.word.proofs.Laws.Text.{put-room}
+use Rattle.machine.specs.declared.Kind.{Kind}
+use Rattle.machine.specs.declared.Kind.the-variants.{Number, End}
 use Rattle.machine.specs.Atom.{Line}
-use Rattle.report.specs.Lines.{space, newline, jobWord, refusedWord, jobText, refusedText, lineText}
+use Rattle.report.specs.Lines.{space, newline, jobWord, refusedWord, jobText, refusedText, headText, lineText}
 use Rattle.report.specs.Written.{Written, nextOf}
 
 -- ════════════════════════════════════════════════════════════════════════════════════════════
@@ -106,10 +108,15 @@ pub hexadecimal-length : (n : ℕ) → length (hexadecimal n) ≡ 8
 unfolding hexadecimal
 hexadecimal-length n = numeral-length 16 8 n
 
+-- a number, or `end`
+pub head-short : (k : Kind) (z : ℤ) → mag z < 2 ^ 63 → length (headText k z) ≤ 20
+head-short Number z h = decimal-short z h
+head-short End z h = omega arith
+
 pub line-short : (x : Line) → mag (x .number) < 2 ^ 63 → length (lineText x) ≤ 30
 unfolding lineText
 line-short x h =
-    simp length-append (omega (arith, decimal-short (x .number) h, hexadecimal-length (x .label)))
+    simp length-append (omega (arith, head-short (x .kind) (x .number) h, hexadecimal-length (x .label)))
 
 -- ════════════════════════════════════════════════════════════════════════════════════════════
 -- The messages and a line, part by part
@@ -140,14 +147,14 @@ written-refused number place o₀ o₁ o₂ o₃ o₄ o₅ a b c d e h v w x y z
     (simp length-append (omega arith)) four z
 
 pub written-line : (x : Line) (o₀ o₁ o₂ o₃ o₄ : List ℕ) (at a b c d : ℕ) → mag (x .number) < 2 ^ 63 → at + 30 ≤ length o₀
-    → Written (decimal (x .number)) o₀ at a o₁ → Written space o₁ a b o₂ → Written (hexadecimal (x .label)) o₂ b c o₃
+    → Written (headText (x .kind) (x .number)) o₀ at a o₁ → Written space o₁ a b o₂ → Written (hexadecimal (x .label)) o₂ b c o₃
     → Written newline o₃ c d o₄ → Written (lineText x) o₀ at d o₄
 unfolding lineText
 written-line l o₀ o₁ o₂ o₃ o₄ at a b c d f h w x y z =
-    let n = decimal-short (l .number) f in
+    let first = headText (l .kind) (l .number) in
+    let n = head-short (l .kind) (l .number) f in
     let k = hexadecimal-length (l .label) in
-    let two = written-append (decimal (l .number)) space o₀ o₁ o₂ at a b (omega arith) w x in
-    let three =
-    written-append (decimal (l .number) ++ space) (hexadecimal (l .label)) o₀ o₂ o₃ at b c (simp length-append (omega arith)) two y in
-    written-append (decimal (l .number) ++ space ++ hexadecimal (l .label)) newline o₀ o₃ o₄ at c d
+    let two = written-append first space o₀ o₁ o₂ at a b (omega arith) w x in
+    let three = written-append (first ++ space) (hexadecimal (l .label)) o₀ o₂ o₃ at b c (simp length-append (omega arith)) two y in
+    written-append (first ++ space ++ hexadecimal (l .label)) newline o₀ o₃ o₄ at c d
     (simp length-append (omega arith)) three z

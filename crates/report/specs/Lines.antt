@@ -1,8 +1,11 @@
 -- The text of a page, in ASCII: each printed line ends in a newline (0a), and its parts are divided by one space (20).
 use Prim.Native.Nat.{ℕ}
 use mathlib.Core.List.{List, [], _∷_, _++_}
+use lib.IntN.{ℤ}
 use Rattle.word.specs.Text.{natural, decimal, hexadecimal}
 use Rattle.label.specs.Label.{flows}
+use Rattle.machine.specs.declared.Kind.{Kind}
+use Rattle.machine.specs.declared.Kind.the-variants.{Number, End}
 use Rattle.machine.specs.Atom.{Line}
 use Rattle.word.specs.Choose.{choose}
 
@@ -26,9 +29,17 @@ refusedWord = 0x72 ∷ 0x65 ∷ 0x66 ∷ 0x75 ∷ 0x73 ∷ 0x65 ∷ 0x64 ∷ []
 unfoldable pub refusedText : ℕ → ℕ → List ℕ
 refusedText number place = refusedWord ++ space ++ natural number ++ space ++ natural place ++ newline
 
--- number in decimal, space, label in eight lowercase hexadecimal digits
+-- number in decimal, or `end`
+abbrev pub endWord : List ℕ
+endWord = 0x65 ∷ 0x6e ∷ 0x64 ∷ []
+
+abbrev pub headText : Kind → ℤ → List ℕ
+headText Number n = decimal n
+headText End n = endWord
+
+-- space, label in eight lowercase hexadecimal digits
 unfoldable pub lineText : Line → List ℕ
-lineText x = decimal (x .number) ++ space ++ hexadecimal (x .label) ++ newline
+lineText x = headText (x .kind) (x .number) ++ space ++ hexadecimal (x .label) ++ newline
 
 -- a line whose label flows to the reader's set
 abbrev pub shownText : (reader : ℕ) → Line → List ℕ

@@ -43,6 +43,7 @@ fn run(
     let mut handler = [0i64; 302];
     let mut numbers = [0i64; 1024];
     let mut line_labels = [0i64; 1024];
+    let mut kinds = [0i64; 1024];
     let ended = tagged::execute(
         sheet,
         values,
@@ -54,6 +55,7 @@ fn run(
         &mut handler,
         &mut numbers,
         &mut line_labels,
+        &mut kinds,
         allowance,
     );
     let answer = ended.answer;
@@ -62,7 +64,7 @@ fn run(
         Answer::Stopped(ran) => {
             let machine = ran.machine;
             let lines = machine.lines;
-            print::lines(&numbers, &line_labels, lines, reader, out)
+            print::lines(&numbers, &line_labels, &kinds, lines, reader, out)
         }
     }
 }

@@ -1,6 +1,9 @@
 // The text of a page, written from a position on into a space that has room for it. Read specs/Lines.antt first.
+use engine::Line;
 use engine::room;
+use engine::shorter;
 use label::Label;
+use machine::Kind;
 use program::Refusal;
 use word::text::Put;
 ghost use mathlib.Core.Path.{_≡_};
@@ -8,8 +11,8 @@ ghost use Prim.Native.Nat.{_+_, _*_, _≤_};
 ghost use lib.ListN.{length};
 ghost use Rattle.word.specs.Text.{natural, decimal, hexadecimal};
 ghost use Rattle.engine.specs.Memory.{output};
-ghost use Rattle.engine.specs.Layout.{linesOf};
-ghost use Rattle.report.specs.Lines.{jobText, refusedText, lineText, shownText, linesText};
+ghost use Rattle.engine.specs.Layout.{lineFrom, linesOf};
+ghost use Rattle.report.specs.Lines.{jobText, refusedText, headText, lineText, shownText, linesText};
 ghost use Rattle.report.specs.Written.{Written, nextOf};
 
 fn bytes(text: &[u8], out: &mut [u8], at: usize) -> usize
@@ -77,24 +80,39 @@ pub(crate) fn refused(r: Refusal, out: &mut [u8]) -> usize
     bytes(b"\n", out, place)
 }
 
-// A line: at most 20 bytes for the number, 8 for the label, a space and a newline.
-fn line(n: i64, label: Label, out: &mut [u8], at: usize) -> usize
-    requires { ⌜ at + 30 ≤ length (now out) ⌝ }
-    ensures { λ r. ⌜ Written (lineText (record { number = n; label = label .0 })) (now (out .entry)) at r (now (out .exit)) ⌝ }
+// What a line starts with: its number, or `end`.
+fn head(kind: Kind, n: i64, out: &mut [u8], at: usize) -> usize
+    requires { ⌜ at + 20 ≤ length (now out) ⌝ }
+    ensures { λ r. ⌜ Written (headText kind n) (now (out .entry)) at r (now (out .exit)) ⌝ }
 {
-    let first = signed_number(n, out, at);
+    match kind {
+        Kind::Number => signed_number(n, out, at),
+        Kind::End => bytes(b"end", out, at),
+    }
+}
+
+// A line: at most 20 bytes for the number, 8 for the label, a space and a newline.
+fn line(x: Line, out: &mut [u8], at: usize) -> usize
+    requires { ⌜ at + 30 ≤ length (now out) ⌝ }
+    ensures text { λ r. ⌜ Written (lineText (lineFrom x)) (now (out .entry)) at r (now (out .exit)) ⌝ }
+    ensures short { λ r. ⌜ r ≤ at + 30 ⌝ }
+{
+    let kind = x.kind;
+    let label = x.label;
+    let first = head(kind, x.number, out, at);
     let gap = bytes(b" ", out, first);
     let second = digits(label, out, gap);
     bytes(b"\n", out, second)
 }
 
 // A line that the reader may see, or nothing.
-fn shown(n: i64, label: Label, reader: Label, out: &mut [u8], at: usize) -> usize
+fn shown(x: Line, reader: Label, out: &mut [u8], at: usize) -> usize
     requires { ⌜ at + 30 ≤ length (now out) ⌝ }
-    ensures { λ r. ⌜ Written (shownText (reader .0) (record { number = n; label = label .0 })) (now (out .entry)) at r (now (out .exit)) ⌝ }
+    ensures text { λ r. ⌜ Written (shownText (reader .0) (lineFrom x)) (now (out .entry)) at r (now (out .exit)) ⌝ }
+    ensures short { λ r. ⌜ r ≤ at + 30 ⌝ }
 {
-    if label.flows(reader) {
-        line(n, label, out, at)
+    if x.label.flows(reader) {
+        line(x, out, at)
     } else {
         at
     }
@@ -104,21 +122,23 @@ fn shown(n: i64, label: Label, reader: Label, out: &mut [u8], at: usize) -> usiz
 pub(crate) fn lines(
     numbers: &[i64],
     line_labels: &[i64],
+    kinds: &[i64],
     written: usize,
     reader: Label,
     out: &mut [u8],
 ) -> usize
     requires { ⌜ 30 * length (now numbers) ≤ length (now out) ⌝ }
-    ensures { λ r. ⌜ Written (linesText (reader .0) (linesOf written (output (now (numbers .entry)) (now («line_labels» .entry)))))
+    ensures { λ r. ⌜ Written
+        (linesText (reader .0)
+        (linesOf written (output (now (numbers .entry)) (now («line_labels» .entry)) (now (kinds .entry)))))
         (now (out .entry)) 0 r (now (out .exit)) ⌝ }
 {
-    let count = room(written, room(numbers.len(), line_labels.len()));
+    let count = shorter(written, room(numbers.len(), line_labels.len(), kinds.len()));
     let mut at: usize = 0;
     let mut i: usize = 0;
     while i < count {
-        let n = word::memory::at(numbers, i);
-        let label = Label::low(word::memory::at(line_labels, i));
-        at = shown(n, label, reader, out, at);
+        let x = engine::line_at(numbers, line_labels, kinds, i);
+        at = shown(x, reader, out, at);
         i += 1;
     }
     at

@@ -35,23 +35,24 @@ pub fn execute(
     handler: &mut [i64],
     numbers: &mut [i64],
     line_labels: &mut [i64],
+    kinds: &mut [i64],
     fuel: u64,
 ) -> Tagged
     ensures left { λ r. ⌜ left (endedBy r
         (memory (now (program .exit)) (lent (now (stack .exit)) (cells (now (values .exit)) (now (labels .exit))))
-        (output (now (numbers .exit)) (now («line_labels» .exit)))))
+        (output (now (numbers .exit)) (now («line_labels» .exit)) (now (kinds .exit)))))
         (now (handler .exit))
         ≡ tagged (now (sheet .entry)) (now (table .entry)) (cache .words)
         (memory (now (program .entry)) (lent (now (stack .entry)) (cells (now (values .entry)) (now (labels .entry))))
-        (output (now (numbers .entry)) (now («line_labels» .entry))))
+        (output (now (numbers .entry)) (now («line_labels» .entry)) (now (kinds .entry))))
         (now (handler .entry)) fuel ⌝ }
     ensures rules { λ r. ⌜ Promises (now (sheet .entry)) (now (table .entry))
         (memory (now (program .entry)) (lent (now (stack .entry)) (cells (now (values .entry)) (now (labels .entry))))
-        (output (now (numbers .entry)) (now («line_labels» .entry))))
+        (output (now (numbers .entry)) (now («line_labels» .entry)) (now (kinds .entry))))
         (now (handler .entry)) fuel
         (left (endedBy r
         (memory (now (program .exit)) (lent (now (stack .exit)) (cells (now (values .exit)) (now (labels .exit))))
-        (output (now (numbers .exit)) (now («line_labels» .exit)))))
+        (output (now (numbers .exit)) (now («line_labels» .exit)) (now (kinds .exit)))))
         (now (handler .exit))) ⌝ }
 {
     let rules = start::rules(table, cache, handler.len());
@@ -73,7 +74,7 @@ pub fn execute(
         Checked::Accepted(count) => {
             program::write(sheet, program);
             translator::write(table, handler);
-            let room = engine::room(numbers.len(), line_labels.len());
+            let room = engine::room(numbers.len(), line_labels.len(), kinds.len());
             let end = run::go(
                 count,
                 room,
@@ -87,6 +88,7 @@ pub fn execute(
                 labels,
                 numbers,
                 line_labels,
+                kinds,
             );
             let ran = end.ran;
             let row = end.cache;

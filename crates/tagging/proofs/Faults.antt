@@ -65,7 +65,8 @@ module _ (handler : List Instruction) where
     pub tag-counts : (fuel : ℕ) (s : State) (u : Tag) → Adds (length handler) s u (run (tagRuler handler) room cs fuel s u)
     tag-counts =
         run-induction (tagRuler handler) room cs (λ fuel s u r. Adds (length handler) s u r)
-        (λ fuel s u e. record { more = 0; faults = omega arith; most = omega arith; kernelSteps = omega arith })
+        (λ fuel s u e f. record { more = 0; faults = omega arith; most = omega arith; kernelSteps = omega arith })
+        (λ fuel s u e f. record { more = 0; faults = omega arith; most = omega arith; kernelSteps = omega arith })
         (λ s u e. record { more = 0; faults = omega arith; most = omega arith; kernelSteps = omega arith })
         (λ fuel s u x e g.
         let (h, k) = step-grows s u in

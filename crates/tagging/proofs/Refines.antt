@@ -110,7 +110,8 @@ module _ (t : Table) (well : TableWritable t) (room : ℕ) (cs : List Command) w
       → let r : Result Tag = run ρ room cs fuel s u in Leaves t room cs (r .stop) (r .state) (r .ruler .row)
   run-leaves =
       run-induction ρ room cs (λ fuel s u r. Ready s u → Leaves t room cs (r .stop) (r .state) (r .ruler .row))
-      (λ fuel s u e ready. ready .1)
+      (λ fuel s u e f ready. ready .1)
+      (λ fuel s u e f ready. ready .1)
       (λ s u e ready. ready .1)
       (λ fuel s u x e g ready. rw g at (step-left s u ready))
       (λ fuel s v u r e g on ready. on (step-ready s u ready v g))

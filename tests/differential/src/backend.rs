@@ -2,9 +2,11 @@
 //! with one deliberate fault each, on which the tests are tried.
 
 use model::engine::{judged, plain, tagged, Lent, Report};
+use model::machine::Kind;
 use model::page::page;
 use model::rules::{standard, Labels, Question, Table};
 use model::sample::Sample;
+use model::sheet::decode;
 use model::{flows, Refusal};
 
 /// An answer as the C interface gives it: refusal, position, stop, steps, pc, its label, depth, lines, faults, kernel
@@ -35,7 +37,7 @@ impl From<Result<Report, Refusal>> for Answer {
     }
 }
 
-/// The longest page: 1,024 lines of at most 30 bytes.
+/// The longest page: 1,024 lines, the end line included, of at most 30 bytes.
 pub const PAGE_LIMIT: usize = 30_720;
 
 pub trait Backend {
@@ -103,9 +105,21 @@ pub enum Fault {
     FaultTooMany,
     /// The handler allows what the table does not.
     HandlerAllows,
+    /// The end line's label is empty.
+    EndUnlabelled,
+    /// An end line is written where the allowance is spent.
+    EndWhereSpent,
+    /// The end without room for its line is stop 0.
+    EndWithoutRoom,
+    /// The kinds do not count for the room.
+    RoomByTwo,
+    /// The end line is counted as a step.
+    EndIsStep,
+    /// The end line needs allowance.
+    EndNeedsAllowance,
 }
 
-pub const FAULTS: [Fault; 9] = [
+pub const FAULTS: [Fault; 15] = [
     Fault::OutputWithoutPlace,
     Fault::BranchWithoutPlace,
     Fault::StoreOnNewLabel,
@@ -115,6 +129,12 @@ pub const FAULTS: [Fault; 9] = [
     Fault::DeniedRowAccepted,
     Fault::FaultTooMany,
     Fault::HandlerAllows,
+    Fault::EndUnlabelled,
+    Fault::EndWhereSpent,
+    Fault::EndWithoutRoom,
+    Fault::RoomByTwo,
+    Fault::EndIsStep,
+    Fault::EndNeedsAllowance,
 ];
 
 /// The model with one fault.
@@ -136,17 +156,57 @@ impl Faulty {
             _ => right,
         }
     }
+
+    /// A run with the fault in what its end and its room come to.
+    fn ending<F: FnOnce(&mut Lent) -> Answer>(
+        &self,
+        sheet: &[u8],
+        lent: &mut Lent,
+        fuel: u64,
+        run: F,
+    ) -> Answer {
+        let came = lent.clone();
+        if self.0 == Fault::RoomByTwo {
+            let room = came.numbers.len().min(came.line_labels.len());
+            lent.kinds.resize(room.max(came.kinds.len()), 0);
+        }
+        let mut answer = run(lent);
+        lent.kinds.truncate(came.kinds.len());
+        let [refusal, _, stop, steps, pc, label, _, lines, _, _] = &mut answer.words;
+        if *refusal != 0 {
+            return answer;
+        }
+        let at_end = decode(sheet).is_ok_and(|commands| commands.len() as u64 == *pc);
+        let next = *lines as usize;
+        match (self.0, *stop) {
+            (Fault::LineTooMany, _) if next < lent.numbers.len() => lent.numbers[next] = 0,
+            (Fault::EndUnlabelled, 0) => lent.line_labels[next - 1] = 0,
+            (Fault::EndWhereSpent, 1) if next < lent.room() => {
+                lent.numbers[next] = 0;
+                lent.line_labels[next] = *label as i64;
+                lent.kinds[next] = Kind::End as i64;
+                *lines += 1;
+            }
+            (Fault::EndWithoutRoom, 8) if at_end => *stop = 0,
+            (Fault::EndIsStep, 0) => *steps += 1,
+            (Fault::EndNeedsAllowance, 0) if *steps == fuel => {
+                lent.numbers[next - 1] = came.numbers[next - 1];
+                lent.line_labels[next - 1] = came.line_labels[next - 1];
+                lent.kinds[next - 1] = came.kinds[next - 1];
+                *lines -= 1;
+                *stop = 1;
+            }
+            _ => {}
+        }
+        answer
+    }
 }
 
 impl Backend for Faulty {
     fn plain(&self, sheet: &[u8], lent: &mut Lent, fuel: u64) -> Answer {
-        let answer = judged(sheet, lent, fuel, &mut |question: &_| self.rule(question));
-        if let (Fault::LineTooMany, Ok(report)) = (self.0, answer) {
-            if let Some(word) = lent.numbers.get_mut(report.lines as usize) {
-                *word = 0;
-            }
-        }
-        answer.into()
+        self.ending(sheet, lent, fuel, |lent| {
+            judged(sheet, lent, fuel, &mut |question: &_| self.rule(question)).into()
+        })
     }
 
     fn tagged(&self, sheet: &[u8], table: &[u8], lent: &mut Lent, fuel: u64) -> Answer {
@@ -157,7 +217,9 @@ impl Backend for Faulty {
         if self.0 == Fault::HandlerAllows {
             sample.allow_all();
         }
-        let mut answer = Answer::from(tagged(sheet, table, sample.handler(), lent, fuel).answer);
+        let mut answer = self.ending(sheet, lent, fuel, |lent| {
+            tagged(sheet, table, sample.handler(), lent, fuel).answer.into()
+        });
         if self.0 == Fault::FaultTooMany && answer.words[8] > 0 {
             answer.words[8] += 1;
         }

@@ -20,6 +20,7 @@ fn lent_difference(engine: &Lent, model: &Lent) -> Option<String> {
         ("handler", &engine.handler, &model.handler),
         ("numbers", &engine.numbers, &model.numbers),
         ("line_labels", &engine.line_labels, &model.line_labels),
+        ("kinds", &engine.kinds, &model.kinds),
     ];
     for (name, engine, model) in runs {
         if engine == model {
@@ -50,7 +51,7 @@ fn compare_plain(backend: &dyn Backend, start: &Start, tally: &mut Tally) -> Res
         standard(question)
     });
     let model = Answer::from(model);
-    tally.plain.note(&model);
+    tally.plain.note(&model, start, &by_model);
     same("plain", (engine, &by_engine), (model, &by_model))
 }
 
@@ -71,7 +72,7 @@ fn compare_tagged(backend: &dyn Backend, start: &Start, tally: &mut Tally) -> Re
         return Err(format!("handler: {wrong:?}"));
     }
     let answer = Answer::from(model.answer);
-    tally.tagged.note(&answer);
+    tally.tagged.note(&answer, start, &by_model);
     if answer.words[0] == 0 {
         if let (Ok(table), true) = (&table, start.table != STANDARD) {
             tally.other_table(table, count);
@@ -120,6 +121,7 @@ fn compare_page(backend: &dyn Backend, random: &mut Random, tally: &mut Tally) -
         Ok(_) => {
             tally.pages += 1;
             tally.page_bytes += expected.len() as u64;
+            tally.page_ends += u64::from(expected.lines().any(|line| line.starts_with("end ")));
         }
     }
     Ok(())
@@ -158,7 +160,7 @@ pub fn describe(start: &Start) -> String {
     let cells = lent.values.len().min(12);
     format!(
         "  sheet {sheet}\n  table {:02x?}\n  values {:?}\n  labels {:?}\n  rule memory {:?}\n  lengths: cells {} {} program {} \
-         stack {} handler {} output {} {}\n  fuel {}",
+         stack {} handler {} output {} {} {}\n  fuel {}",
         start.table,
         &lent.values[..cells],
         &lent.labels[..cells.min(lent.labels.len())],
@@ -170,6 +172,7 @@ pub fn describe(start: &Start) -> String {
         lent.handler.len(),
         lent.numbers.len(),
         lent.line_labels.len(),
+        lent.kinds.len(),
         start.fuel
     )
 }

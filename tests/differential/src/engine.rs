@@ -15,6 +15,7 @@ fn lend(lent: &mut Lent) -> (luvrodan::Lent<'_>, &mut [i64], &mut [i64]) {
         stack: &mut lent.stack,
         numbers: &mut lent.numbers,
         line_labels: &mut lent.line_labels,
+        kinds: &mut lent.kinds,
     };
     (lent_to_engine, &mut lent.rule_memory, &mut lent.handler)
 }

@@ -2,7 +2,8 @@
 //! then some of them are damaged, as are cells, tables, rule memories and spaces.
 
 use crate::random::Random;
-use model::engine::Lent;
+use model::engine::{plain, Lent, Report};
+use model::machine::Stop;
 use model::rules::{
     result_is_empty, LabelTree, Question, Rule, Table, YesNoTree, DEPTH, STANDARD, TABLE_BYTES,
 };
@@ -63,6 +64,8 @@ struct Builder<'a> {
     random: &'a mut Random,
     commands: Vec<Command>,
     cells: usize,
+    /// Pushes of the number that the sheet's end will have.
+    ends: Vec<usize>,
 }
 
 impl Builder<'_> {
@@ -138,6 +141,7 @@ impl Builder<'_> {
             deeper,
             deeper / 2,
             deeper / 2,
+            deeper / 4,
             2,
             1,
             1,
@@ -170,32 +174,33 @@ impl Builder<'_> {
             5 => self.call(depth),
             6 => self.jump(depth),
             7 => self.probe(),
+            8 => self.leave(),
             // Round and round until the stack, the output space or the allowance ends it.
-            8 => {
+            9 => {
                 let start = self.here();
                 let command = self.random.pick(&[Push(3), Push(-1)]);
                 self.put(command);
                 self.put(Push(1));
                 self.branch_back(start);
             }
-            9 => {
+            10 => {
                 let start = self.here();
                 self.value(0);
                 self.put(Output);
                 self.put(Push(1));
                 self.branch_back(start);
             }
-            10 => {
+            11 => {
                 let start = self.here();
                 self.body(0);
                 self.put(Push(start));
                 self.put(Jump);
             }
-            11 => {
+            12 => {
                 let command = any_command(self.random);
                 self.put(command);
             }
-            12 => self.put(Ret),
+            13 => self.put(Ret),
             _ => {
                 let target = number(self.random);
                 self.put(Push(target));
@@ -285,6 +290,25 @@ impl Builder<'_> {
         self.commands[skip] = Push(self.here());
     }
 
+    /// A call that leaves for the end of the sheet or comes back, depending on a cell; back there, a constant is printed.
+    fn leave(&mut self) {
+        self.cell();
+        let target = self.commands.len();
+        for command in [Push(0), Call, Push(1), Output] {
+            self.put(command);
+        }
+        let skip = self.commands.len();
+        self.put(Push(0));
+        self.put(Jump);
+        self.commands[target] = Push(self.here());
+        self.put(Bnz(3));
+        self.ends.push(self.commands.len());
+        for command in [Push(0), Jump, Ret] {
+            self.put(command);
+        }
+        self.commands[skip] = Push(self.here());
+    }
+
     /// A jump over a body, in some cases to a place that a cell's number moves.
     fn jump(&mut self, depth: usize) {
         let target = self.commands.len();
@@ -320,11 +344,15 @@ pub fn commands(random: &mut Random, cells: usize) -> Vec<Command> {
     match random.weighted(&[900, 98, 2]) {
         0 => {
             let snippets = random.between(1, 8);
-            let mut builder = Builder { random, commands: Vec::new(), cells };
+            let mut builder = Builder { random, commands: Vec::new(), cells, ends: Vec::new() };
             for _ in 0..snippets {
                 builder.snippet(3);
             }
-            let mut commands = builder.commands;
+            let end = Push(builder.here());
+            let Builder { mut commands, ends, .. } = builder;
+            for at in ends {
+                commands[at] = end;
+            }
             if random.percent(10) && !commands.is_empty() {
                 let index = random.below(commands.len());
                 commands[index] = any_command(random);
@@ -578,12 +606,34 @@ fn space(random: &mut Random, needs: usize) -> Vec<i64> {
     random.words(length)
 }
 
-fn output_length(random: &mut Random) -> usize {
-    match random.weighted(&[5, 45, 45, 5]) {
+/// Room for lines: numbers, labels and kinds. Each of the three is the shortest in some cases.
+fn output(random: &mut Random, room: usize) -> [Vec<i64>; 3] {
+    let mut lengths = [0; 3].map(|_| room + random.pick(&[0, 1, 2, 30]));
+    lengths[random.below(3)] = room;
+    lengths.map(|length| random.words(length))
+}
+
+fn room(random: &mut Random) -> usize {
+    match random.weighted(&[10, 50, 37, 3]) {
         0 => 0,
         1 => random.between(1, 8),
         2 => random.between(9, 60),
         _ => random.between(250, 1100),
+    }
+}
+
+/// Where a run comes to the sheet's end: room for just the lines that it prints before, or for the end line too, and in
+/// some cases an allowance that is just spent there.
+fn fit(random: &mut Random, start: &mut Start) {
+    let [numbers, line_labels, kinds] = output(random, 1100);
+    let mut roomy = Lent { numbers, line_labels, kinds, ..start.lent.clone() };
+    if let Ok(Report { stop: Stop::End, steps, lines, .. }) = plain(&start.sheet, &mut roomy, start.fuel) {
+        let end_fits = random.percent(40);
+        let room = lines as usize - usize::from(!end_fits);
+        [start.lent.numbers, start.lent.line_labels, start.lent.kinds] = output(random, room);
+        if random.percent(50) {
+            start.fuel = steps;
+        }
     }
 }
 
@@ -623,6 +673,8 @@ pub fn start(random: &mut Random, handler_count: impl Fn(&[u8]) -> u64) -> Start
     }
     let program = 2 * commands.map_or(10, |commands| commands.len());
     let handler = 2 * handler_count(&table) as usize;
+    let room = room(random);
+    let [numbers, line_labels, kinds] = output(random, room);
     let lent = Lent {
         values,
         labels,
@@ -630,16 +682,15 @@ pub fn start(random: &mut Random, handler_count: impl Fn(&[u8]) -> u64) -> Start
         program: space(random, program),
         stack: space(random, 768),
         handler: space(random, handler),
-        numbers: {
-            let length = output_length(random);
-            random.words(length)
-        },
-        line_labels: {
-            let length = output_length(random);
-            random.words(length)
-        },
+        numbers,
+        line_labels,
+        kinds,
     };
-    Start { sheet, table, lent, fuel: fuel(random) }
+    let mut start = Start { sheet, table, lent, fuel: fuel(random) };
+    if random.percent(20) {
+        fit(random, &mut start);
+    }
+    start
 }
 
 // ---- jobs ----------------------------------------------------------------------------------------------------------

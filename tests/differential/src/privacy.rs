@@ -1,10 +1,12 @@
 //! Looks for a counterexample to demand 3: two runs of one sheet, each on either engine, from cells that are alike
-//! for a set of owners, whose views for that set are not one the start of the other.
+//! for a set of owners, whose views for that set are not one the start of the other. And for an end line that misleads:
+//! a view that has one must be whole, with the other view as its start.
 
 use crate::backend::Backend;
 use crate::generate::{cells, commands, fuel, label, number, rule_memory};
 use crate::random::Random;
 use model::engine::{Lent, ALLOWANCE};
+use model::machine::{Kind, Stop};
 use model::rules::{Table, STANDARD};
 use model::sheet::{encode, Command, COMMANDS};
 use model::{flows, Atom, Label};
@@ -21,6 +23,11 @@ pub struct Pairs {
     /// Lines that one view has beyond the other.
     pub cut: u64,
     pub lines: u64,
+    /// Pairs whose views both have an end line, and pairs of which one view has one.
+    pub both_end: u64,
+    pub one_ends: u64,
+    /// Runs that came to their end at a place whose label is outside the set.
+    pub hidden_ends: u64,
 }
 
 impl Pairs {
@@ -28,6 +35,10 @@ impl Pairs {
         println!(
             "pairs {}, views with lines {}, lines compared {}, different ways {}, one on each engine {}, one view longer {}",
             self.pairs, self.with_lines, self.lines, self.apart, self.mixed, self.cut
+        );
+        println!(
+            "end lines in both views {}, in one {}, outside the set {}",
+            self.both_end, self.one_ends, self.hidden_ends
         );
     }
 
@@ -38,6 +49,9 @@ impl Pairs {
             ("different ways", self.apart),
             ("one on each engine", self.mixed),
             ("one view longer", self.cut),
+            ("end lines in both views", self.both_end),
+            ("an end line in one view", self.one_ends),
+            ("an end outside the set", self.hidden_ends),
         ]
         .into_iter()
         .filter(|&(_, count)| count == 0)
@@ -64,9 +78,34 @@ fn alike(random: &mut Random, cells: &[Atom], set: Label) -> Vec<Atom> {
 }
 
 struct Run {
-    view: Vec<(i64, i64)>,
-    steps: (u64, u64),
+    /// Kind, number and label of each line inside the set.
+    view: Vec<[i64; 3]>,
+    stop: u64,
+    steps: u64,
+    /// The place's label is inside the set.
+    cleared: bool,
     on_plain: bool,
+}
+
+impl Run {
+    fn is_at_end(&self) -> bool {
+        self.stop == Stop::End as u64
+    }
+
+    /// Where in the view the first end line stands.
+    fn end_line(&self) -> Option<usize> {
+        self.view.iter().position(|&[kind, ..]| kind == Kind::End as i64)
+    }
+
+    fn has_end_line(&self) -> bool {
+        self.end_line().is_some()
+    }
+
+    /// An end line stands last in the view where the run came to its end at a place inside the set, and nowhere else.
+    fn tells_its_end(&self) -> bool {
+        let last = self.view.len().saturating_sub(1);
+        self.end_line() == (self.is_at_end() && self.cleared).then_some(last)
+    }
 }
 
 fn run(backend: &dyn Backend, random: &mut Random, sheet: &[Command], cells: &[Atom], set: Label) -> Run {
@@ -90,11 +129,29 @@ fn run(backend: &dyn Backend, random: &mut Random, sheet: &[Command], cells: &[A
         lent.handler.truncate(2 * backend.handler_count(&STANDARD) as usize);
         backend.tagged(&bytes, &STANDARD, &mut lent, fuel)
     };
-    let [refusal, _, stop, steps, _, _, _, lines, _, _] = answer.words;
+    let [refusal, _, stop, steps, _, place_label, _, lines, _, _] = answer.words;
     assert_eq!(refusal, 0, "the start breaks no limit");
-    let written = lent.numbers.into_iter().zip(lent.line_labels).take(lines as usize);
-    let view = written.filter(|&(_, mark)| flows(mark as Label, set)).collect();
-    Run { view, steps: (stop, steps), on_plain }
+    let view = (0..lines as usize)
+        .map(|index| [lent.kinds[index], lent.numbers[index], lent.line_labels[index]])
+        .filter(|&[_, _, mark]| flows(mark as Label, set))
+        .collect();
+    Run { view, stop, steps, cleared: flows(place_label as Label, set), on_plain }
+}
+
+/// What is wrong with two views: they differ; one has an end line and the other goes on; or one has an end line where
+/// its run has none for this reader, or the other way round.
+fn wrong(one: &Run, two: &Run) -> Option<&'static str> {
+    let common = one.view.len().min(two.view.len());
+    let passes = |whole: &Run, other: &Run| whole.has_end_line() && other.view.len() > whole.view.len();
+    if one.view[..common] != two.view[..common] {
+        Some("differ")
+    } else if passes(one, two) || passes(two, one) {
+        Some("differ in what follows an end line")
+    } else if !(one.tells_its_end() && two.tells_its_end()) {
+        Some("do not tell their runs' ends")
+    } else {
+        None
+    }
 }
 
 /// Makes one pair of a seed and compares its views.
@@ -110,15 +167,20 @@ pub fn privacy_case(backend: &dyn Backend, seed: u64, case: u64, pairs: &mut Pai
     let common = one.view.len().min(two.view.len());
     pairs.pairs += 1;
     pairs.with_lines += u64::from(common > 0);
-    pairs.apart += u64::from(one.steps != two.steps);
+    pairs.apart += u64::from((one.stop, one.steps) != (two.stop, two.steps));
     pairs.mixed += u64::from(one.on_plain != two.on_plain);
     pairs.cut += u64::from(one.view.len() != two.view.len());
     pairs.lines += common as u64;
-    if one.view[..common] == two.view[..common] {
+    let ends = [one.has_end_line(), two.has_end_line()];
+    pairs.both_end += u64::from(ends == [true; 2]);
+    pairs.one_ends += u64::from(ends[0] != ends[1]);
+    pairs.hidden_ends +=
+        [&one, &two].into_iter().filter(|run| run.is_at_end() && !run.cleared).count() as u64;
+    let Some(wrong) = wrong(&one, &two) else {
         return Ok(());
-    }
+    };
     Err(format!(
-        "seed {seed} case {case}: views for {set:08x} differ: {:?} and {:?}\n  sheet {sheet:?}\n  cells {cells:?}\n  cells {others:?}",
+        "seed {seed} case {case}: views for {set:08x} {wrong}: {:?} and {:?}\n  sheet {sheet:?}\n  cells {cells:?}\n  cells {others:?}",
         one.view, two.view
     ))
 }

@@ -1,8 +1,12 @@
 //! What was reached, how often: a test that never meets a stop says nothing about it.
 
 use crate::backend::Answer;
+use crate::generate::Start;
+use model::engine::Lent;
+use model::machine::Kind;
 use model::page::JobFault;
 use model::rules::{Question, Table, TableFault, DEPTH};
+use model::sheet::decode;
 
 const TABLE_FAULTS: [TableFault; 7] = [
     TableFault::TooLong,
@@ -22,6 +26,13 @@ const JOB_FAULTS: [JobFault; 5] = [
     JobFault::NoSheet,
 ];
 
+/// What may be met at the sheet's end: hidden is at a place whose label is not empty, spent with no allowance left.
+const ENDS: [&str; 5] =
+    ["end line", "end line, hidden", "end line, spent", "stop 8 at the end", "stop 8 at end, spent"];
+
+/// Stop 8 where one run of the output space alone is the shortest.
+const FULL: [&str; 3] = ["stop 8 by numbers", "stop 8 by labels", "stop 8 by kinds"];
+
 /// Counts for one engine.
 #[derive(Clone, Default)]
 pub struct Engine {
@@ -34,11 +45,14 @@ pub struct Engine {
     pub faults: u64,
     pub kernel_steps: u64,
     pub longest: u64,
+    pub ends: [u64; ENDS.len()],
+    pub full: [u64; FULL.len()],
 }
 
 impl Engine {
-    pub fn note(&mut self, answer: &Answer) {
-        let [refusal, place, stop, steps, _, _, _, lines, faults, kernel_steps] = answer.words;
+    /// Counts an answer to a start, which left the memory like this.
+    pub fn note(&mut self, answer: &Answer, start: &Start, lent: &Lent) {
+        let [refusal, place, stop, steps, pc, label, _, lines, faults, kernel_steps] = answer.words;
         if refusal != 0 {
             self.refusals[refusal as usize] += 1;
             if refusal == 8 {
@@ -52,6 +66,24 @@ impl Engine {
         self.faults += faults;
         self.kernel_steps += kernel_steps;
         self.longest = self.longest.max(steps);
+        let end = lent.kinds[..lines as usize].contains(&(Kind::End as i64));
+        let full = stop == 8;
+        let full_end = full && decode(&start.sheet).is_ok_and(|commands| commands.len() as u64 == pc);
+        let spent = steps == start.fuel;
+        let met = [end, end && label != 0, end && spent, full_end, full_end && spent];
+        for (count, met) in self.ends.iter_mut().zip(met) {
+            *count += u64::from(met);
+        }
+        let (numbers, labels, kinds) = (lent.numbers.len(), lent.line_labels.len(), lent.kinds.len());
+        let shortest =
+            [numbers < labels.min(kinds), labels < numbers.min(kinds), kinds < numbers.min(labels)];
+        for (count, alone) in self.full.iter_mut().zip(shortest) {
+            *count += u64::from(full && alone);
+        }
+    }
+
+    fn ends_and_full(&self) -> impl Iterator<Item = (&'static str, u64)> + '_ {
+        ENDS.into_iter().chain(FULL).zip(self.ends.iter().chain(&self.full).copied())
     }
 }
 
@@ -74,6 +106,8 @@ pub struct Tally {
     pub filled_memories: u64,
     pub pages: u64,
     pub page_bytes: u64,
+    /// Pages with an end line.
+    pub page_ends: u64,
     /// Faulty jobs by what is wrong with them.
     pub job_faults: [u64; 5],
     pub job_refusals: u64,
@@ -123,6 +157,9 @@ impl Tally {
             for place in 1..=if rules { 3 } else { 2 } {
                 want(format!("{name}: refusal 8 at {place}"), engine.spaces[place]);
             }
+            for (what, count) in engine.ends_and_full() {
+                want(format!("{name}: {what}"), count);
+            }
         }
         for code in 0x01..=0x0b {
             want(format!("command {code:02x}"), self.commands[code]);
@@ -138,6 +175,8 @@ impl Tally {
         want("a table eight deep".into(), u64::from(self.deepest_table == DEPTH));
         want("a rule memory that is not empty".into(), self.filled_memories);
         want("a page with lines".into(), self.page_bytes);
+        want("a page with an end line".into(), self.page_ends);
+        want("a page without an end line".into(), self.pages - self.page_ends);
         want("a refused job".into(), self.job_refusals);
         want("a short page buffer".into(), self.short_buffers);
         missing
@@ -148,6 +187,9 @@ impl Tally {
         let row = |name: String, plain: u64, tagged: u64| println!("{name:>22} {plain:>12} {tagged:>12}");
         for stop in 0..9 {
             row(format!("stop {stop}"), self.plain.stops[stop], self.tagged.stops[stop]);
+        }
+        for ((what, plain), (_, tagged)) in self.plain.ends_and_full().zip(self.tagged.ends_and_full()) {
+            row(what.into(), plain, tagged);
         }
         for number in 1..10 {
             row(format!("refusal {number}"), self.plain.refusals[number], self.tagged.refusals[number]);
@@ -176,7 +218,10 @@ impl Tally {
         for (fault, count) in TABLE_FAULTS.iter().zip(&self.table_faults) {
             print!(" {fault:?} {count}");
         }
-        print!("\njobs: pages {} of {} bytes, refused {}", self.pages, self.page_bytes, self.job_refusals);
+        print!(
+            "\njobs: pages {} of {} bytes, {} with an end line, refused {}",
+            self.pages, self.page_bytes, self.page_ends, self.job_refusals
+        );
         for (fault, count) in JOB_FAULTS.iter().zip(&self.job_faults) {
             print!(", {fault:?} {count}");
         }

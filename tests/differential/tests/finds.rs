@@ -33,12 +33,30 @@ fn every_fault_is_found() {
     }
 }
 
+/// The first pair of runs of which this is wrong.
+fn find_pair(fault: Fault, wrong: &str) {
+    let mut pairs = Pairs::default();
+    let mut failure = |case| privacy_case(&Faulty(fault), SEED, case, &mut pairs).err();
+    let found = (0..30_000).find_map(|case| failure(case).filter(|failure| failure.contains(wrong)));
+    println!("{fault:?}: {}", found.unwrap_or_else(|| panic!("{fault:?} is not found")));
+}
+
 #[test]
 fn every_leak_is_found() {
-    for fault in [Fault::OutputWithoutPlace, Fault::BranchWithoutPlace, Fault::StoreOnNewLabel] {
-        let mut pairs = Pairs::default();
-        let found = (0..30_000).find(|&case| privacy_case(&Faulty(fault), SEED, case, &mut pairs).is_err());
-        println!("{fault:?}: case {found:?}");
-        assert!(found.is_some(), "{fault:?}");
+    for fault in [
+        Fault::OutputWithoutPlace,
+        Fault::BranchWithoutPlace,
+        Fault::StoreOnNewLabel,
+        Fault::EndUnlabelled,
+        Fault::EndWhereSpent,
+    ] {
+        find_pair(fault, " differ: ");
+    }
+}
+
+#[test]
+fn every_false_end_is_found() {
+    for fault in [Fault::EndUnlabelled, Fault::EndWhereSpent, Fault::EndWithoutRoom] {
+        find_pair(fault, " do not tell their runs' ends: ");
     }
 }

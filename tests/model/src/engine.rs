@@ -1,8 +1,8 @@
 //! The two engines over lent words: what is refused, what is run, what the words hold afterwards (document 01, "Tag
-//! engine", "Refused before the first step").
+//! engine", "Refused before the first step"; document 02, U1, for the third run of the output space).
 
 use crate::kernel::{self, Breach, Ending};
-use crate::machine::{Entry, Judge, Machine, Stop, STACK};
+use crate::machine::{Entry, Judge, Kind, Line, Machine, Stop, STACK};
 use crate::rules::{standard, Labels, Question, RuleMemory, Table};
 use crate::sheet::{decode, Command};
 use crate::{Atom, Label, Refusal};
@@ -23,10 +23,12 @@ pub struct Lent {
     pub handler: Vec<i64>,
     pub numbers: Vec<i64>,
     pub line_labels: Vec<i64>,
+    pub kinds: Vec<i64>,
 }
 
 impl Lent {
-    /// Memory that suffices for any run: these cells, an empty rule memory, room for so many lines, zeros.
+    /// Memory that suffices for any run: these cells, an empty rule memory, room for so many lines, the end line among
+    /// them, zeros.
     pub fn roomy(cells: &[Atom], lines: usize) -> Lent {
         Lent {
             values: cells.iter().map(|cell| cell.number).collect(),
@@ -37,7 +39,23 @@ impl Lent {
             handler: vec![0; 2 * kernel::COMMANDS],
             numbers: vec![0; lines],
             line_labels: vec![0; lines],
+            kinds: vec![0; lines],
         }
+    }
+
+    /// How many lines fit: the shortest of the output space's three runs says so.
+    pub fn room(&self) -> usize {
+        self.numbers.len().min(self.line_labels.len()).min(self.kinds.len())
+    }
+
+    /// The lines that a run of this report left.
+    pub fn lines(&self, report: &Report) -> Vec<Line> {
+        let line = |index: usize| Line {
+            kind: if self.kinds[index] == Kind::End as i64 { Kind::End } else { Kind::Number },
+            number: self.numbers[index],
+            label: self.line_labels[index] as Label,
+        };
+        (0..report.lines as usize).map(line).collect()
     }
 }
 
@@ -109,8 +127,7 @@ fn lay<const N: usize>(space: &mut [i64], records: impl Iterator<Item = [i64; N]
 
 /// Runs the machine and lays what it left into the lent words.
 fn run(commands: &[Command], cells: Vec<Atom>, lent: &mut Lent, fuel: u64, judge: &mut impl Judge) -> Report {
-    let room = lent.numbers.len().min(lent.line_labels.len());
-    let mut machine = Machine::new(cells, room);
+    let mut machine = Machine::new(cells, lent.room());
     let (stop, steps) = machine.run(commands, fuel, judge);
     lay(&mut lent.program, commands.iter().map(|command| command.words()));
     lay(
@@ -124,6 +141,7 @@ fn run(commands: &[Command], cells: Vec<Atom>, lent: &mut Lent, fuel: u64, judge
     lay(&mut lent.labels, machine.cells.iter().map(|cell| [cell.label.into()]));
     lay(&mut lent.numbers, machine.lines.iter().map(|line| [line.number]));
     lay(&mut lent.line_labels, machine.lines.iter().map(|line| [line.label.into()]));
+    lay(&mut lent.kinds, machine.lines.iter().map(|line| [line.kind as i64]));
     Report {
         stop,
         steps,

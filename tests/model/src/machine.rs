@@ -1,4 +1,5 @@
-//! The machine: its state, its step and its runs (document 01, "Atoms, cells, stack", "Commands", "Stops").
+//! The machine: its state, its step and its runs (document 01, "Atoms, cells, stack", "Commands", "Stops"; document 02,
+//! U1, for the end line).
 
 use crate::rules::{Labels, Question};
 use crate::sheet::Command;
@@ -24,6 +25,21 @@ pub enum Stop {
     NotAllowed = 6,
     StackFull = 7,
     OutputFull = 8,
+}
+
+/// What a line says: a number that an Output dropped, or that the run came to the sheet's end.
+#[derive(Clone, Copy, Debug, PartialEq, Eq)]
+pub enum Kind {
+    Number = 0,
+    End = 1,
+}
+
+/// A line's record; an end line's number is 0.
+#[derive(Clone, Copy, Debug, PartialEq, Eq)]
+pub struct Line {
+    pub kind: Kind,
+    pub number: i64,
+    pub label: Label,
 }
 
 /// The stack. Entries from `depth` on were dropped and keep their content.
@@ -91,8 +107,8 @@ pub struct Machine {
     pub place_label: Label,
     pub stack: Stack,
     pub cells: Vec<Atom>,
-    pub lines: Vec<Atom>,
-    /// How many lines the output space holds.
+    pub lines: Vec<Line>,
+    /// How many lines the output space holds, the end line among them.
     pub room: usize,
 }
 
@@ -103,6 +119,14 @@ impl Machine {
 
     fn cell(&self, address: i64) -> Result<usize, Stop> {
         usize::try_from(address).ok().filter(|&index| index < self.cells.len()).ok_or(Stop::AddressOutside)
+    }
+
+    fn write(&mut self, kind: Kind, number: i64, label: Label) -> Result<(), Stop> {
+        if self.lines.len() >= self.room {
+            return Err(Stop::OutputFull);
+        }
+        self.lines.push(Line { kind, number, label });
+        Ok(())
     }
 
     /// The atoms that the command works on, in the order of its inputs.
@@ -150,11 +174,8 @@ impl Machine {
                 self.stack.push(Entry::Value(result(number)));
             }
             Output => {
-                if self.lines.len() >= self.room {
-                    return Err(Stop::OutputFull);
-                }
-                let line = result(self.stack.pop_atom().number);
-                self.lines.push(line);
+                self.write(Kind::Number, atoms[0].number, labels.result)?;
+                self.stack.pop();
             }
             Pop => {
                 self.stack.pop();
@@ -195,12 +216,20 @@ impl Machine {
         Ok(())
     }
 
+    /// What the end of the sheet comes to: its line, or no room for it. It is no step, and no judge is asked.
+    fn end(&mut self) -> Stop {
+        match self.write(Kind::End, 0, self.place_label) {
+            Ok(()) => Stop::End,
+            Err(stop) => stop,
+        }
+    }
+
     /// Steps until a stop: which, and how many commands were carried out.
     pub fn run(&mut self, commands: &[Command], allowance: u64, judge: &mut impl Judge) -> (Stop, u64) {
         let mut steps = 0;
         loop {
             if self.place == commands.len() as i64 {
-                return (Stop::End, steps);
+                return (self.end(), steps);
             }
             if steps == allowance {
                 return (Stop::AllowanceSpent, steps);

@@ -1,12 +1,14 @@
-//! The `page` program: from a job's bytes to a page's bytes (document 01, "The page program").
+//! The `page` program: from a job's bytes to a page's bytes (document 01, "The page program"; document 02, U1, for the
+//! end line).
 
 use crate::engine::{self, judged, Lent};
+use crate::machine::Kind;
 use crate::rules::{Table, STANDARD};
 use crate::{flows, Atom, Label};
 
 /// The most bytes of a job.
 pub const JOB_BYTES: usize = 65_536;
-/// The lines of space that the program lends.
+/// The lines of space that the program lends; an end line takes one of them.
 pub const LINES: usize = 1_024;
 
 /// A job that was read.
@@ -80,10 +82,11 @@ pub fn page(job: &[u8]) -> String {
         Ok(report) => report,
         Err(refusal) => return format!("refused {} {}\n", refusal.number, refusal.place),
     };
-    let lines = lent.numbers.iter().zip(&lent.line_labels);
-    lines
-        .take(report.lines as usize)
-        .filter(|(_, &label)| flows(label as Label, job.reader))
-        .map(|(number, label)| format!("{number} {label:08x}\n"))
+    let cleared = lent.lines(&report).into_iter().filter(|line| flows(line.label, job.reader));
+    cleared
+        .map(|line| match line.kind {
+            Kind::Number => format!("{} {:08x}\n", line.number, line.label),
+            Kind::End => format!("end {:08x}\n", line.label),
+        })
         .collect()
 }

@@ -1,20 +1,28 @@
-//! Document 01's readings, starred and unstarred, on both engines.
+//! Document 01's readings, starred and unstarred, as document 02's U1 leaves them, and U1's own cases, on both engines.
 
 use model::engine::{plain, tagged, Handler, Lent, Report};
-use model::machine::Stop;
-use model::page::page;
+use model::machine::{Kind, Line, Stop};
+use model::page::{page, LINES};
 use model::rules::{standard, Question, Table, STANDARD};
 use model::sample::Sample;
 use model::sheet::{decode, encode, Command, Command::*};
-use model::{flows, Atom, Refusal};
+use model::{flows, Atom, Label, Refusal};
 
 const CELLS: [Atom; 2] = [Atom { number: 7, label: 0 }, Atom { number: 5, label: 1 }];
 
 /// A run on both engines, which must agree: the report, the lines and the rule memory.
 struct Run {
     report: Report,
-    lines: Vec<(i64, i64)>,
+    lines: Vec<Line>,
     lent: Lent,
+}
+
+fn line(number: i64, label: Label) -> Line {
+    Line { kind: Kind::Number, number, label }
+}
+
+fn end(label: Label) -> Line {
+    Line { kind: Kind::End, number: 0, label }
 }
 
 fn run_with(sheet: &[Command], cells: &[Atom], fuel: u64, lines: usize) -> Result<Run, Refusal> {
@@ -39,9 +47,7 @@ fn run_with(sheet: &[Command], cells: &[Atom], fuel: u64, lines: usize) -> Resul
             return Err(tagged.unwrap_err());
         }
     };
-    let written = lent.numbers.iter().copied().zip(lent.line_labels.iter().copied());
-    let lines = written.take(report.lines as usize).collect();
-    Ok(Run { report, lines, lent })
+    Ok(Run { report, lines: lent.lines(&report), lent })
 }
 
 fn run(sheet: &[Command]) -> Run {
@@ -50,6 +56,11 @@ fn run(sheet: &[Command]) -> Run {
 
 fn stop_of(sheet: &[Command], fuel: u64) -> Stop {
     run_with(sheet, &CELLS, fuel, 100).unwrap().report.stop
+}
+
+fn stop_and_lines(sheet: &[Command], fuel: u64) -> (Stop, Vec<Line>) {
+    let run = run_with(sheet, &CELLS, fuel, 100).unwrap();
+    (run.report.stop, run.lines)
 }
 
 fn r1() -> Vec<Command> {
@@ -74,43 +85,103 @@ fn job(reader: u32, sheet: &[Command]) -> Vec<u8> {
 #[test]
 fn reading_1() {
     let run = run(&r1());
-    assert_eq!(run.lines, [(12, 1), (7, 0)]);
-    assert_eq!((run.report.stop, run.report.steps), (Stop::End, 9));
-    assert_eq!(page(&job(1, &r1())), "12 00000001\n7 00000000\n");
-    assert_eq!(page(&job(0, &r1())), "7 00000000\n");
+    assert_eq!(run.lines, [line(12, 1), line(7, 0), end(0)]);
+    assert_eq!((run.report.stop, run.report.steps, run.report.lines), (Stop::End, 9, 3));
+    assert_eq!(page(&job(1, &r1())), "12 00000001\n7 00000000\nend 00000000\n");
+    assert_eq!(page(&job(0, &r1())), "7 00000000\nend 00000000\n");
 }
 
 #[test]
 fn readings_2_and_3() {
     let sheet = [Push(1), Load, Bnz(3), Push(0), Output, Push(9), Output];
     let taken = run(&sheet);
-    assert_eq!((taken.lines, taken.report.steps), (vec![(9, 1)], 5));
+    assert_eq!((taken.lines, taken.report.steps), (vec![line(9, 1), end(1)], 5));
     let cells = [CELLS[0], Atom { number: 0, label: 1 }];
     let fallen = run_with(&sheet, &cells, 1000, 100).unwrap();
-    assert_eq!((fallen.lines, fallen.report.steps), (vec![(0, 1), (9, 1)], 7));
+    assert_eq!((fallen.lines, fallen.report.steps), (vec![line(0, 1), line(9, 1), end(1)], 7));
+    // The end line is for those whom the branch is for.
+    assert_eq!(page(&job(1, &sheet)), "9 00000001\nend 00000001\n");
+    assert_eq!(page(&job(0, &sheet)), "");
 }
 
 #[test]
 fn reading_4() {
     let run = run(&[Push(1), Load, Bnz(1), Push(7), Push(0), Store]);
-    assert_eq!((run.report.stop, run.report.steps), (Stop::NotAllowed, 5));
+    assert_eq!((run.report.stop, run.report.steps, run.lines), (Stop::NotAllowed, 5, vec![]));
     assert_eq!(run.lent.rule_memory, [7, 1, 0, 0, 0, -1, -1]);
 }
 
 #[test]
 fn reading_5() {
     let run = run(&[Push(1), Load, Push(8), Call, Push(8), Output, Push(10), Jump, Bnz(1), Ret]);
-    assert_eq!((run.lines, run.report.stop, run.report.steps), (vec![(8, 0)], Stop::End, 10));
+    assert_eq!((run.lines, run.report.stop, run.report.steps), (vec![line(8, 0), end(0)], Stop::End, 10));
 }
 
 #[test]
 fn readings_6_to_10() {
     let run = run(&[Push(i64::MAX), Push(1), Add, Output]);
-    assert_eq!(run.lines, [(i64::MIN, 0)]);
-    assert_eq!(stop_of(&[], 0), Stop::End);
-    assert_eq!(stop_of(&[Push(1)], 0), Stop::AllowanceSpent);
-    assert_eq!(stop_of(&[Ret], 10), Stop::FrameMissing);
-    assert_eq!(stop_of(&[Push(2), Load], 10), Stop::AddressOutside);
+    assert_eq!(run.lines, [line(i64::MIN, 0), end(0)]);
+    assert_eq!(stop_and_lines(&[], 0), (Stop::End, vec![end(0)]));
+    assert_eq!(stop_and_lines(&[Push(1)], 0), (Stop::AllowanceSpent, vec![]));
+    assert_eq!(stop_and_lines(&[Ret], 10), (Stop::FrameMissing, vec![]));
+    assert_eq!(stop_and_lines(&[Push(2), Load], 10), (Stop::AddressOutside, vec![]));
+}
+
+#[test]
+fn the_end_line_is_no_step_and_asks_no_rule() {
+    let empty = run_with(&[], &CELLS, 0, 1).unwrap();
+    let counts =
+        |report: Report| (report.stop, report.steps, report.lines, report.faults, report.kernel_steps);
+    assert_eq!(counts(empty.report), (Stop::End, 0, 1, 0, 0));
+    assert_eq!(empty.lent.rule_memory, [0; 7]);
+    let push = run_with(&[Push(1)], &CELLS, 1, 1).unwrap();
+    assert_eq!((push.report.stop, push.report.steps, push.report.faults), (Stop::End, 1, 1));
+    assert_eq!((push.lines, push.lent.rule_memory), (vec![end(0)], vec![5, 0, -1, -1, -1, 0, 0]));
+}
+
+#[test]
+fn no_space_for_the_end_line() {
+    // With allowance left and with allowance spent; one step before the end it is the allowance that stops the run.
+    for fuel in [10, 2] {
+        let full = run_with(&[Push(4), Output], &CELLS, fuel, 1).unwrap();
+        let report = full.report;
+        assert_eq!((report.stop, report.steps, report.place, report.depth), (Stop::OutputFull, 2, 2, 0));
+        assert_eq!((full.lines, report.faults), (vec![line(4, 0)], 2));
+    }
+    assert_eq!(run_with(&[Push(4), Output], &CELLS, 1, 1).unwrap().report.stop, Stop::AllowanceSpent);
+    assert_eq!(run_with(&[Push(4), Output], &CELLS, 2, 2).unwrap().lines, [line(4, 0), end(0)]);
+    let empty = run_with(&[], &CELLS, 0, 0).unwrap().report;
+    assert_eq!((empty.stop, empty.steps, empty.place, empty.lines), (Stop::OutputFull, 0, 0, 0));
+}
+
+#[test]
+fn the_shortest_of_three_runs_sets_the_room() {
+    for lengths in [[2, 3, 4], [3, 4, 2], [4, 2, 3], [2, 2, 9]] {
+        let [numbers, line_labels, kinds] = lengths.map(|length| vec![7; length]);
+        let mut lent = Lent { numbers, line_labels, kinds, ..Lent::roomy(&CELLS, 0) };
+        let sheet = encode(&[Push(4), Output]);
+        let report = plain(&sheet, &mut lent, 10).unwrap();
+        assert_eq!((report.stop, report.lines), (Stop::End, 2));
+        let laid = |words: [i64; 2], length| [&words[..], &vec![7; length - 2]].concat();
+        let [numbers, line_labels, kinds] = lengths;
+        assert_eq!(lent.numbers, laid([4, 0], numbers));
+        assert_eq!(lent.line_labels, laid([0, 0], line_labels));
+        assert_eq!(lent.kinds, laid([0, 1], kinds));
+        let before = lent.clone();
+        assert!(plain(&sheet, &mut lent, 1_000_001).is_err());
+        assert_eq!(lent, before);
+        let report = plain(&sheet.repeat(2), &mut lent, 10).unwrap();
+        assert_eq!((report.stop, report.place, report.lines), (Stop::OutputFull, 4, 2));
+        assert_eq!(lent.kinds, laid([0, 0], kinds));
+    }
+}
+
+#[test]
+fn pages_that_are_cut_and_whole() {
+    let printing = |count: usize| page(&job(0, &[Push(1), Output].repeat(count)));
+    let lines = |count| "1 00000000\n".repeat(count);
+    assert_eq!(printing(LINES - 1), lines(LINES - 1) + "end 00000000\n");
+    assert_eq!(printing(LINES), lines(LINES));
 }
 
 fn start_with_rule_memory(memory: [i64; 7]) -> Result<Report, Refusal> {
@@ -131,7 +202,7 @@ fn readings_11_and_12() {
 #[test]
 fn stack_limit() {
     let at_limit = run(&[Push(1); 256]);
-    assert_eq!((at_limit.report.stop, at_limit.report.depth), (Stop::End, 256));
+    assert_eq!((at_limit.report.stop, at_limit.report.depth, at_limit.lines), (Stop::End, 256, vec![end(0)]));
     let beyond = run(&[Push(1); 257]);
     assert_eq!((beyond.report.stop, beyond.report.steps), (Stop::StackFull, 256));
 }
@@ -149,7 +220,7 @@ fn tempting_mistakes() {
     assert_eq!(stop_of(&[Push(1), Push(3), Call, Add], 10), Stop::ValueMissing);
     // Ret does not keep P: the line after a hidden call is public (reading 5), and one inside is not.
     let inside = run(&[Push(1), Load, Push(4), Call, Bnz(1), Push(3), Output]);
-    assert_eq!(inside.lines, [(3, 1)]);
+    assert_eq!(inside.lines, [line(3, 1), end(1)]);
     // Store is tested on the old label: a public cell is not raised under a hidden place, a hidden one may change.
     let hidden = run(&[Push(1), Load, Bnz(1), Push(7), Push(1), Store]);
     assert_eq!((hidden.report.stop, hidden.lent.values[1], hidden.lent.labels[1]), (Stop::End, 7, 1));
@@ -234,7 +305,7 @@ fn place_and_output_stops() {
     assert_eq!(stop_of(&[Push(2), Jump], 2), Stop::End);
     assert_eq!(stop_of(&[Push(3), Jump], 2), Stop::AllowanceSpent);
     let full = run_with(&[Push(1), Output, Push(2), Output], &CELLS, 10, 1).unwrap();
-    assert_eq!((full.report.stop, full.report.steps, full.lines), (Stop::OutputFull, 3, vec![(1, 0)]));
+    assert_eq!((full.report.stop, full.report.steps, full.lines), (Stop::OutputFull, 3, vec![line(1, 0)]));
 }
 
 #[test]
@@ -246,14 +317,14 @@ fn jobs() {
     assert_eq!(page(&vec![0x43; 65_537]), "job 65536\n");
     assert_eq!(page(&[0x43, 0]), "refused 2 0\n");
     assert_eq!(page(&[0x41, 0x41, 0x42, 0x0f, 0, 0x43]), "refused 9 0\n");
-    assert_eq!(page(&[0x41, 0x40, 0x42, 0x0f, 0, 0x43]), "");
+    assert_eq!(page(&[0x41, 0x40, 0x42, 0x0f, 0, 0x43]), "end 00000000\n");
     let cell = [0x40, 0, 0, 0, 0, 0, 0, 0, 0, 0, 0, 0, 0];
-    assert_eq!(page(&[&cell.repeat(1024)[..], &[0x43]].concat()), "");
+    assert_eq!(page(&[&cell.repeat(1024)[..], &[0x43]].concat()), "end 00000000\n");
     assert_eq!(page(&[&cell.repeat(1025)[..], &[0x43]].concat()), "job 13312\n");
     // The last 41 and 42 hold.
     let mut twice = vec![0x42, 1, 0, 0, 0];
     twice.extend(job(0, &r1()));
-    assert_eq!(page(&twice), "7 00000000\n");
+    assert_eq!(page(&twice), "7 00000000\nend 00000000\n");
 }
 
 #[test]

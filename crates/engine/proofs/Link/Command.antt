@@ -13,7 +13,7 @@ use borrow.Author.Tests.{ltb-true}
 use Rattle.word.specs.Wrap.{Signed, addWrap, subWrap}
 use Rattle.program.specs.declared.Command.{Command}
 use Rattle.program.specs.declared.Command.the-variants.{Add, Sub, Pop, Output, Push, Load, Store, Jump, Bnz, Call, Ret}
-use Rattle.machine.specs.Atom.{Atom, Entry, value, frame, Line}
+use Rattle.machine.specs.Atom.{Atom, Entry, value, frame, numberLine}
 use Rattle.machine.specs.Rule.{missing}
 use Rattle.machine.specs.State.{State, outputFull, stackFull}
 use Rattle.machine.specs.Step.{Outcome, Request, ask, provided, withValues, stackLimit, request, of, atom, next, printing, branch}
@@ -25,15 +25,14 @@ use Rattle.step.specs.Find.{first, second, loadFinding, storeFinding, twoValues
 use Rattle.step.specs.Find.{findOf}
 use Rattle.step.specs.Effect.{sumOf, branchOf, refilling, arithEffect, popEffect, outputEffect, pushEffect}
 use Rattle.step.specs.Effect.{loadEffect, storeEffect, jumpEffect, bnzEffect, callEffect, effectOf}
-use Rattle.engine.specs.Memory.{output}
 use Rattle.engine.specs.Memory as Memory
-use Rattle.engine.specs.Act.{emitOf}
+use Rattle.engine.specs.Act.{writeOf, emitOf}
 use Rattle.engine.specs.Ended.{machineOf}
 use Rattle.engine.proofs.Link.Stack.{Held, held-tail, topSlot, below, slot-top, slot-below, stack-pushed}
 use Rattle.engine.proofs.Link.Record.{addWrap-id, dropped-entry, dropped-entries, pushed-entry, printed-line, following-next}
 use Rattle.engine.proofs.Link.Represents.{Represents, Sound, Simulates}
 use Rattle.engine.proofs.Link.Needs.{value-needed, values-needed, frame-needed, cell-needed, room-needed}
-use Rattle.engine.proofs.Link.Runs.{cell-read, label-read, cell-stored, line-laid}
+use Rattle.engine.proofs.Link.Runs.{cell-read, label-read, cell-stored, line-at}
 use Rattle.engine.proofs.Link.Carried.{stop-simulates, carried, goto-carried, refill-carried}
 use Rattle.engine.proofs.Link.Looks.{found, effect, Looks}
 
@@ -144,12 +143,11 @@ module _ {room : ℕ} {o₀ : Memory.Output} {s : State} {l : Lent} {o : Memory.
 
   -- the line is written where there is room
   line-written : (a : Atom) (rest : List Entry) (p label : ℕ) (b : Bool) → s .stack ≡ value a ∷ rest → ltb (length (s .lines)) room ≡ b
-      → Sim (provided b outputFull (printing s p rest (record { number = a .number; label = label })))
+      → Sim (provided b outputFull (printing s p rest (numberLine (a .number) label)))
       (after (outputEffect p label (machineOf s) (l .stack)) l)
-  unfolding outputEffect emitOf
+  unfolding outputEffect emitOf writeOf
   line-written a rest p label false e t = (rw t, refl)
   line-written a rest p label true e t =
-      let line : Line = record { number = a .number; label = label } in
       let fits : length (s .lines) < room = ltb-true _ _ t in
       rw (t, first-is, e) (
         refl,
@@ -157,12 +155,7 @@ module _ {room : ℕ} {o₀ : Memory.Output} {s : State} {l : Lent} {o : Memory.
           machine = rw (dropped-entry, following-next _ _ _ _ p on, printed-line _ _ _ _ room fits, length-append, add-one);
           stack = under-one e;
           cells = r .cells;
-          output =
-              ap₂ output
-              (line-laid (λ x. x .number) (s .lines) line (o₀ .numbers) (ap (λ (x : Memory.Output). x .numbers) (r .output))
-              (omega (arith, h .numbersFit)))
-              (line-laid (λ x. pos (x .label)) (s .lines) line (o₀ .labels) (ap (λ (x : Memory.Output). x .labels) (r .output))
-              (omega (arith, h .labelsFit)));
+          output = line-at (s .lines) (numberLine (a .number) label) o o₀ (r .output) (omega (arith, h .fits));
         },
         under-one e,
       )

@@ -9,7 +9,7 @@ use Rattle.machine.specs.Holds.{LabelsInRange}
 use Rattle.stack.specs.declared.Machine.{Machine}
 use Rattle.stack.specs.Words.{carriedOut}
 use Rattle.step.specs.Lent.{Lent, After}
-use Rattle.engine.specs.Memory.{Output}
+use Rattle.engine.specs.Memory.{Output, room}
 use Rattle.engine.specs.Layout.{stackWords, cellWords, linesLaid}
 use Rattle.engine.specs.Act.{went, Emitted, emitted, emitOf}
 use Rattle.engine.specs.Ended.{machineOf}
@@ -22,13 +22,12 @@ pub record Represents (o₀ : Output) (s : State) (m : Machine) (l : Lent) (o : 
   pub cells : l .cells ≡ cellWords (s .memory)
   pub output : o ≡ linesLaid (s .lines) o₀
 
--- what a run keeps: the spaces are long enough, the depth and the labels are in their bounds
-pub record Sound (room : ℕ) (o₀ : Output) (s : State) (l : Lent) : Type 0 where
+-- what a run with room for n lines keeps: the spaces are long enough, the depth and the labels are in their bounds
+pub record Sound (n : ℕ) (o₀ : Output) (s : State) (l : Lent) : Type 0 where
   pub space : 768 ≤ length (l .stack)
   pub depth : length (s .stack) ≤ stackLimit
   pub labels : LabelsInRange s
-  pub numbersFit : room ≤ length (o₀ .numbers)
-  pub labelsFit : room ≤ length (o₀ .labels)
+  pub fits : n ≤ room o₀
 
 -- a command on words, with its line written, does what the machine's outcome says: stopped, it changes nothing; carried out, the words
 -- hold the next state, whose stack is laid over the stack space

@@ -3,6 +3,7 @@
 use mathlib.Core.Path.{_≡_, refl, ap, _∙_}
 use mathlib.Core.List.{List, [], _∷_, _++_, map, map-append}
 use Prim.Native.Nat.{ℕ, zero, suc, _<_}
+use native.Mathlib.Omega.{arith}
 use lib.IntN.{ℤ, pos}
 use lib.ListN.{length, getD, set, length-map}
 use Rattle.word.specs.Lay.{laid}
@@ -12,6 +13,9 @@ use Rattle.machine.specs.Atom.{Atom, Line}
 use Rattle.machine.specs.Holds.{Each, AtomHas}
 use Rattle.machine.proofs.Request.{At, here, there}
 use Rattle.machine.proofs.Holds.{each-at}
+use Rattle.engine.specs.Memory.{Output, room}
+use Rattle.engine.specs.Layout.{kindWord, linesLaid}
+use Rattle.engine.specs.Act.{lineAt}
 use Rattle.engine.proofs.Link.Laid.{laid-set}
 use Rattle.engine.proofs.Link.Stack.{lowLabel-id}
 
@@ -37,7 +41,17 @@ cell-stored word cells i c e = ap (λ (w : List ℤ). set w i (word c)) e ∙ st
     stored (b ∷ cells) zero = refl
     stored (b ∷ cells) (suc i) = ap (λ (w : List ℤ). word b ∷ w) (stored cells i)
 
-pub line-laid : (word : Line → ℤ) {words : List ℤ} (lines : List Line) (l : Line) (old : List ℤ) → words ≡ laid (map word lines) old
+line-laid : (word : Line → ℤ) {words : List ℤ} (lines : List Line) (l : Line) (old : List ℤ) → words ≡ laid (map word lines) old
     → length lines < length old → set words (length lines) (word l) ≡ laid (map word (lines ++ (l ∷ []))) old
 line-laid word lines l old e h =
     rw (e, map-append) (laid-set (map word lines) (word l) old (length lines) (length-map lines word) h)
+
+-- one line more in an output space that came as o₀ and has room for it
+pub line-at : (lines : List Line) (l : Line) (o o₀ : Output) → o ≡ linesLaid lines o₀ → length lines < room o₀
+    → lineAt (length lines) l o ≡ linesLaid (lines ++ (l ∷ [])) o₀
+line-at lines l o o₀ e h =
+    rw (
+      line-laid (λ x. x .number) lines l (o₀ .numbers) (ap (λ (x : Output). x .numbers) e) (omega arith),
+      line-laid (λ x. pos (x .label)) lines l (o₀ .labels) (ap (λ (x : Output). x .labels) e) (omega arith),
+      line-laid (λ x. kindWord (x .kind)) lines l (o₀ .kinds) (ap (λ (x : Output). x .kinds) e) (omega arith),
+    )

@@ -19,7 +19,7 @@ use Rattle.machine.specs.Step.{withCell, decide, consult, request, execu
 use Rattle.machine.proofs.Request.{At, value-all, values-all, frame-all, cell-all, provided-all}
 use Rattle.machine.proofs.Step.{Gives}
 use Rattle.machine.proofs.Privacy.Seen.{Seen, see, joined, see-one, see-both, see-bottom}
-use Rattle.machine.proofs.Privacy.Erasure.{View, Slot, slot, erase, pull, pulls, unwind, first, second, increment, act}
+use Rattle.machine.proofs.Privacy.Erasure.{View, Slot, slot, erase, pull, pulls, unwind, first, second, increment, lineOf, act}
 use Rattle.machine.proofs.Privacy.Effect.{see-cell, see-stored, view-append, see-line}
 
 -- ════════════════════════════════════════════════════════════════════════════════════════════
@@ -73,7 +73,7 @@ act-shows S room Pop s = value-shows S Pop s _ (s .stack) _ _ (λ a rest. rw (se
 act-shows S room Output s =
     value-shows S Output s _ (s .stack) _ _ (λ a rest.
     provided-shows S (ltb (length (s .lines)) room) outputFull _ _
-    (rw (see-one S increment (s .pc), view-append, see-line S (joined first a (s .pc)), see-both S first a (s .pc))))
+    (rw (see-one S increment (s .pc), view-append, see-line S lineOf (joined first a (s .pc)) refl, see-both S first a (s .pc))))
 act-shows S room (Push n) s =
     provided-shows S (ltb (length (s .stack)) stackLimit) stackFull _ _ (rw (see-one S increment (s .pc), see-bottom S n))
 act-shows S room Load s =

@@ -1,6 +1,6 @@
 -- What a reader sees of a cell that is read, of a cell that is written and of a line that is written.
 -- Assumes nothing.
-use mathlib.Core.Path.{_≡_, refl}
+use mathlib.Core.Path.{_≡_, refl, ap, _∙_}
 use mathlib.Core.Bool.{Bool, true, false, _&&_}
 use mathlib.Core.List.{List, [], _∷_, _++_, map}
 use Prim.Native.Nat.{ℕ, zero, suc}
@@ -91,11 +91,11 @@ view-append S (l ∷ ls) ms = rw (view-append S ls ms) (go (flows (l .label) S))
     go true = refl
     go false = refl
 
--- Output: the line of an atom
-pub see-line : (S : ℕ) (a : Atom) → view S (record { number = a .number; label = a .label } ∷ []) ≡ written (see S a)
+-- Output and the end: the line of an atom, with its label
+pub see-line : (S : ℕ) (line : Atom → Line) (a : Atom) → line a .label ≡ a .label → view S (line a ∷ []) ≡ written line (see S a)
 unfolding see
-see-line S a = go (flows (a .label) S)
+see-line S line a e = ap (λ (l : ℕ). keep (flows l S) (line a) []) e ∙ go (flows (a .label) S)
   where
-    go : (p : Bool) → keep p (record { number = a .number; label = a .label }) [] ≡ written (showIf p a)
+    go : (p : Bool) → keep p (line a) [] ≡ written line (showIf p a)
     go true = refl
     go false = refl

@@ -4,16 +4,17 @@
 use mathlib.Core.List.{List, [], _∷_, _++_, map}
 use Prim.Native.Nat.{ℕ, zero, suc}
 use lib.IntN.{ℤ, pos, negsuc, _+ℤ_}
-use lib.ListN.{set}
+use lib.ListN.{length, set}
 use mathlib.Core.Option.{Option, none, some}
+use Rattle.word.specs.Choose.{choose}
 use Rattle.word.specs.Wrap.{addWrap, subWrap}
 use Rattle.label.specs.Label.{bottom}
 use Rattle.program.specs.declared.Command.{Command}
 use Rattle.program.specs.declared.Command.the-variants.{Add, Sub, Pop, Output, Push, Load, Store, Jump, Bnz, Call, Ret}
-use Rattle.machine.specs.Atom.{Entry, value, frame, Line}
+use Rattle.machine.specs.Atom.{Atom, Entry, value, frame, Line, numberLine, endLine}
 use Rattle.machine.specs.State.{State}
 use Rattle.machine.specs.Step.{atom, branch}
-use Rattle.machine.specs.Run.{commandAt}
+use Rattle.machine.specs.Run.{atEnd, commandAt}
 use Rattle.machine.specs.Claim.{view}
 use Rattle.machine.proofs.Privacy.Seen.{Seen, shown, unseen, see, one, both}
 
@@ -80,10 +81,16 @@ abbrev pub changed : List Seen → Seen → Seen → List Seen
 changed cells (shown a) x = changedAt cells (a .number) x
 changed cells unseen x = cells
 
--- the line that is written, if it is seen
-abbrev pub written : Seen → List Line
-written (shown a) = record { number = a .number; label = a .label } ∷ []
-written unseen = []
+-- the line that is written, if it is seen: of an atom that an Output drops, and of the place at the end
+abbrev pub lineOf : Atom → Line
+lineOf a = numberLine (a .number) (a .label)
+
+abbrev pub endOf : Atom → Line
+endOf p = endLine (p .label)
+
+abbrev pub written : (Atom → Line) → Seen → List Line
+written line (shown a) = line a ∷ []
+written line unseen = []
 
 abbrev pub first : ℤ → ℤ → ℤ
 first m n = m
@@ -110,7 +117,7 @@ abbrev pub storeTo : View → List Slot → Seen → Seen → View
 storeTo v stack x y = record { pc = following (v .pc); stack = stack; memory = changed (v .memory) x y; lines = v .lines }
 
 abbrev pub print : View → List Slot → Seen → View
-print v stack x = record { pc = following (v .pc); stack = stack; memory = v .memory; lines = v .lines ++ written x }
+print v stack x = record { pc = following (v .pc); stack = stack; memory = v .memory; lines = v .lines ++ written lineOf x }
 
 unfoldable pub act : Command → View → View
 act Add v = pulls v (v .stack) (λ x y rest. onward v (holds (both addWrap x y) ∷ rest))
@@ -149,10 +156,14 @@ abbrev pub actSome : Option Command → View → View
 actSome none v = v
 actSome (some c) v = act c v
 
-abbrev pub actAt : List Command → ℤ → View → View
-actAt cs z v = actSome (commandAt cs z) v
+-- the end line
+abbrev pub close : View → View
+close v = record { pc = v .pc; stack = v .stack; memory = v .memory; lines = v .lines ++ written endOf (v .pc) }
 
--- the command at a place that is seen; otherwise all that can be seen is the return to a frame
+abbrev pub actAt : List Command → ℤ → View → View
+actAt cs z v = choose (atEnd (length cs) z) (close v) (actSome (commandAt cs z) v)
+
+-- the command at a place that is seen, or the end; otherwise all that can be seen is the return to a frame
 abbrev pub actHere : List Command → Seen → View → View
 actHere cs (shown p) v = actAt cs (p .number) v
 actHere cs unseen v = act Ret v

@@ -8,15 +8,17 @@ use mathlib.Core.List.{List, [], _∷_, _++_, append-nil, append-assoc}
 use Prim.Native.Nat.{ℕ, zero, suc}
 use lib.Seq.{take-append-seam}
 use lib.IntN.{ℤ}
+use lib.ListN.{length}
+use Rattle.word.specs.Choose.{choose}
 use mathlib.Core.Option.{Option, none, some}
 use Rattle.program.specs.declared.Command.{Command}
 use Rattle.program.specs.declared.Command.the-variants.{Add, Sub, Pop, Output, Push, Load, Store, Jump, Bnz, Call, Ret}
 use Rattle.machine.specs.Atom.{Atom, Line}
 use Rattle.machine.specs.Claim.{Start, OneStartsOther}
-use Rattle.machine.specs.Run.{commandAt}
+use Rattle.machine.specs.Run.{atEnd, commandAt}
 use Rattle.machine.proofs.Privacy.Seen.{Seen, shown, unseen, showIf, both}
-use Rattle.machine.proofs.Privacy.Erasure.{View, Slot, holds, returns, pull, pulls, unwind, moveTo, first, written}
-use Rattle.machine.proofs.Privacy.Erasure.{act, cut, trim, actSome, actAt, actHere, move, moves}
+use Rattle.machine.proofs.Privacy.Erasure.{View, Slot, holds, returns, pull, pulls, unwind, moveTo, first, lineOf, endOf, written}
+use Rattle.machine.proofs.Privacy.Erasure.{act, cut, trim, actSome, close, actAt, actHere, move, moves}
 
 -- what a command does with the values on top, which stand above every frame
 pull-all : (P : View → Type 0) (v : View) (es : List Slot) (k : Seen → List Slot → View)
@@ -76,14 +78,18 @@ module _ (es : List Slot) (cells : List Seen) (ls : List Line) where
   act-quiet Call = pulls-quiet _ (λ x y rest e. rw e)
   act-quiet Ret = unwind-quiet es
 
--- what holds of a view and of what each command makes of it holds of what the command at a place makes of it
-module _ (P : View → Type 0) (v : View) (stays : P v) (acts : (c : Command) → P (act c v)) where
+-- what holds of a view and of what each command and the end make of it holds of what the place makes of it
+module _ (P : View → Type 0) (v : View) (stays : P v) (closes : P (close v)) (acts : (c : Command) → P (act c v)) where
   some-all : (o : Option Command) → P (actSome o v)
   some-all none = stays
   some-all (some c) = acts c
 
   at-all : (cs : List Command) (z : ℤ) → P (actAt cs z v)
-  at-all cs z = some-all (commandAt cs z)
+  at-all cs z = go (atEnd (length cs) z)
+    where
+      go : (b : Bool) → P (choose b (close v) (actSome (commandAt cs z) v))
+      go true = closes
+      go false = some-all (commandAt cs z)
 
   here-all : (cs : List Command) (p : Seen) → P (actHere cs p v)
   here-all cs (shown p) = at-all cs (p .number)
@@ -98,7 +104,7 @@ pub at-moves : (cs : List Command) (b : Bool) (p : Atom) (es : List Slot) (cells
 unfolding move
 at-moves cs true p es cells ls = inr refl
 at-moves cs false p es cells ls =
-    at-all (Quiet (within es cells ls)) (within es cells ls) (inl refl) (act-quiet es cells ls) cs (p .number)
+    at-all (Quiet (within es cells ls)) (within es cells ls) (inl refl) (inl (rw append-nil)) (act-quiet es cells ls) cs (p .number)
 
 -- ════════════════════════════════════════════════════════════════════════════════════════════
 -- Lines are only added
@@ -136,7 +142,7 @@ module _ (v : View) where
   act-adds Add = pulls-adds _ (λ x y rest. refl)
   act-adds Sub = pulls-adds _ (λ x y rest. refl)
   act-adds Pop = pull-adds _ (λ x rest. adds-none (v .lines) _ refl)
-  act-adds Output = pull-adds _ (λ x rest. (written (both first x (v .pc)), refl))
+  act-adds Output = pull-adds _ (λ x rest. (written lineOf (both first x (v .pc)), refl))
   act-adds (Push n) = adds-none (v .lines) _ refl
   act-adds Load = pull-adds _ (λ x rest. adds-none (v .lines) _ refl)
   act-adds Store = pulls-adds _ (λ x y rest. refl)
@@ -147,7 +153,7 @@ module _ (v : View) where
 
   move-adds : (cs : List Command) → Grown (move cs v)
   unfolding move
-  move-adds cs = here-all Grown v (kept v refl) act-adds cs (v .pc)
+  move-adds cs = here-all Grown v (kept v refl) (written endOf (v .pc), refl) act-adds cs (v .pc)
 
 moves-adds : (cs : List Command) (n : ℕ) (v : View) → Adds (v .lines) (moves cs n v .lines)
 moves-adds cs zero v = adds-none _ _ refl

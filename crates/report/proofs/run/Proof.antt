@@ -20,7 +20,9 @@ use Rattle.report.proofs.run.Tie as tie
 -- the engine has ended
 module _ (e : tie.After-execute) where
   abbrev start : tie.Start
-  start = e .before .before .before .before .before .before .before .before .before .before .before .before .before
+  start =
+      let at-empty = e .before .before .before .before .before .before .before in
+      at-empty .before .before .before .before .before .before .before
 
   abbrev values : List ℤ
   values = now (start .args .values)
@@ -38,28 +40,38 @@ module _ (e : tie.After-execute) where
       left
       (endedBy (e .execute .result)
       (memory (x .1 .1 .1 .1 .0) (lent (x .1 .1 .1 .1 .1 .0) (cells (x .0) (x .1 .0)))
-      (output (x .1 .1 .1 .1 .1 .1 .1 .0) (x .1 .1 .1 .1 .1 .1 .1 .1 .0))))
+      (let o = x .1 .1 .1 .1 .1 .1 .1 in output (o .0) (o .1 .0) (o .1 .1 .0))))
       (x .1 .1 .1 .1 .1 .1 .0)
 
   ends : last ≡ endFor (cells values labels) (start .args .allowance) sheet
   ends =
-      let at-bytes = e .before .before .before .before .before .before .before .before .before .before in
-      let at-empty = e .before .before .before .before .before .before in
+      let at-empty = e .before .before .before .before .before .before .before in
+      let at-bytes = at-empty .before .before .before .before in
       e .execute .ensures .0
       ∙ ap₂ (λ (t : List ℕ) (row : List ℤ). tagged sheet t row (lentFor (cells values labels)) (zeros 302) (start .args .allowance))
       (at-bytes .bytes .ensures)
       (at-empty .empty .ensures)
 
+-- and its answer is looked at
+module _ (k : tie.After-kinds2) where
+  abbrev ended : tie.After-execute
+  ended = k .before .before .before .before .before .before .before .before
+
+refused-requires : tie.Need-refused-requires
+refused-requires c κs = omega (arith, start (ended (c .before .before .before .before)) .pre)
+
 lines-requires : tie.Need-lines-requires
 lines-requires c κs =
-    let e = c .before .before .before .before .before .before .before .before .before .before .before .before .before .before in
+    let at-machine = c .before .before .before .before in
+    let e = ended (at-machine .before .before .before .before) in
     omega (arith, e .execute .kept .1 .1 .1 .1 .1 .1 .1 .1 .0, length-replicate 1024 (pos 0), start e .pre)
 
 returns : tie.Need-returns
 returns c =
     let done = c .before .before in
-    let r = done .before .before .before .answer .given in
-    let e = done .before .before .before .before .before .before .before .before .before .before .before .before in
+    let answered = done .before .before .before in
+    let r = answered .answer .given in
+    let e = ended (answered .before .before) in
     let a = start e .args in
     run-written (cells (values e) (labels e)) (a .allowance) (a .reader .0) (sheet e) (last e) (ends e)
     (now (a .out)) (done .refused .result) (done .refused .last .1 .0) (Refused (r .0 .0)) (r .1) (done .refused .ensures)
@@ -67,11 +79,13 @@ returns c =
 returns-2 : tie.Need-returns-2
 returns-2 c =
     let done = c .before .before in
-    let r = done .before .before .before .before .before .before .answer2 .given in
-    let e = done .before .before .before .before .before .before .before .before .before .before .before .before .before .before .before in
+    let at-machine = done .before .before .before .before .before in
+    let answered = at-machine .before .before in
+    let r = answered .answer2 .given in
+    let e = ended (answered .before .before) in
     let a = start e .args in
     run-written (cells (values e) (labels e)) (a .allowance) (a .reader .0) (sheet e) (last e) (ends e)
-    (now (a .out)) (done .lines .result) (done .lines .last .1 .1 .1 .1 .0) (Stopped (r .0 .0)) (r .1) (done .lines .ensures)
+    (now (a .out)) (done .lines .result) (done .lines .last .1 .1 .1 .1 .1 .0) (Stopped (r .0 .0)) (r .1) (done .lines .ensures)
 
 pub run-spec : {M : Type 1} → statement M
 run-spec =
@@ -85,9 +99,11 @@ run-spec =
     (λ c. search needs)
     (λ c. search needs)
     (λ c. search needs)
-    (λ c κs. search needs)
     (λ c. search needs)
     (λ c κs. search needs)
+    (λ c. search needs)
+    refused-requires
+    (λ c. search needs)
     (λ c. search needs)
     (λ c. search needs)
     (λ c. search needs)

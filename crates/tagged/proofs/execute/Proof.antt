@@ -59,7 +59,7 @@ module _ (k : tie.After-check) where
   abbrev runs : Memory
   runs =
       memory (now (start .args .program)) (lent (now (start .args .stack)) (cells (now (start .args .values)) (now (start .args .labels))))
-      (output (now (start .args .numbers)) (now (start .args .line-labels)))
+      (output (now (start .args .numbers)) (now (start .args .line-labels)) (now (start .args .kinds)))
 
   octets : Bytes sheet
   octets i = omega (arith, k .before .before .before .before .shared-slice-known .given i)
@@ -105,9 +105,28 @@ module _ (a : tie.After-checked2) where
   size-is : size ≡ length (translate (table .0))
   size-is = ap (λ (x : Found). x .size) (kept .before .before .rules .ensures) ∙ ap (λ q. length (handlerOf q)) (table .1 .rules)
 
+-- program and handler were written, and the room for lines is known
+module _ (r : tie.After-room) where
+  abbrev written : tie.After-write2
+  written = r .before .before
+
+  abbrev load : tie.After-write
+  load = written .before .before .before
+
+  abbrev passed : tie.After-checked2
+  passed = load .before .before .before
+
+-- the loop has run, and the room that it was given
+module _ (c : tie.After-row) where
+  abbrev gone : tie.After-go
+  gone = c .before .before .before .before .before .before .before .before
+
+  abbrev roomy : tie.After-room
+  roomy = gone .before .before .before .before .before .before .before .before .before
+
 go-requires : tie.Need-go-requires
 go-requires c κs =
-    let a = c .before .before .before .before .before .before .before .before .before .before .before .before .before .before .before in
+    let a = passed (c .before .before .before .before .before .before .before .before) in
     let k = kept a in
     let t = table a in
     let n = program a .2 in
@@ -124,15 +143,12 @@ returns c =
 
 returns-2 : tie.Need-returns-2
 returns-2 c =
-    let g = c .before .before .before .before .before .before .before in
-    let roomy = g .before .before .before .before .before .before .before .before in
-    let written = roomy .before .before in
-    let load = written .before .before .before in
-    let a = load .before .before .before in
+    let g = gone c in
+    let a = passed (roomy c) in
     let k = kept a in
     let t = table a in
-    let loaded = load .write .last .1 .0 in
-    let handled = written .write2 .last .1 .0 in
+    let loaded = load (roomy c) .write .last .1 .0 in
+    let handled = written (roomy c) .write2 .last .1 .0 in
     let x = g .go .last .1 .1 .1 .1 .1 .1 .1 in
     let y = x .1 .1 .1 in
     let r = g .go .result in
@@ -140,11 +156,12 @@ returns-2 c =
     promised k _
     (execute-accepted (sheet k) (rules k) (row k) (runs k) (space k) (fuel k) (octets k) (program a .0) (program a .1) (t .0) (t .1)
     (count a) (program a .2) loaded handled (size a)
-    (load .write .ensures ∙ written-accepted (sheet k) (program a .0) _ (t .1 .fine .decoded) (t .1 .fine .program))
-    (written .write2 .ensures .0 ∙ written-table (rules k) (t .0) _ (t .1 .rules) (t .1 .fits)) (size-is a)
-    (done (r .ran) (tag (r .cache .words) (r .faults) (r .kernel)) (lent (x .0) (cells (x .1 .0) (x .1 .1 .0))) (output (y .0) (y .1 .0)))
+    (load (roomy c) .write .ensures ∙ written-accepted (sheet k) (program a .0) _ (t .1 .fine .decoded) (t .1 .fine .program))
+    (written (roomy c) .write2 .ensures .0 ∙ written-table (rules k) (t .0) _ (t .1 .rules) (t .1 .fits)) (size-is a)
+    (done (r .ran) (tag (r .cache .words) (r .faults) (r .kernel)) (lent (x .0) (cells (x .1 .0) (x .1 .1 .0)))
+    (output (y .0) (y .1 .0) (y .1 .1 .0)))
     (g .go .ensures
-    ∙ ap (λ n. loopOf ω (count a) n loaded (fuel k) 0 started (tagOf (row k)) (runs k .lent) (runs k .output)) (roomy .room .ensures)))
+    ∙ ap (λ n. loopOf ω (count a) n loaded (fuel k) 0 started (tagOf (row k)) (runs k .lent) (runs k .output)) (roomy c .room .ensures)))
 
 pub execute-spec : {M : Type 1} → statement M
 execute-spec =
@@ -162,6 +179,7 @@ execute-spec =
     returns
     (λ c. search needs)
     (λ c. search needs)
+    (λ c. load (roomy c) .write .kept .1 .0)
     (λ c. search needs)
     (λ c. search needs)
     (λ c. search needs)

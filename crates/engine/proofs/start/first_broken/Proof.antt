@@ -28,7 +28,7 @@ returns c =
       at-program .kept-if .ensures,
       at-stack .kept-if2 .ensures,
       at-fuel .kept-if3 .ensures,
-      at-program .before .before .room .ensures,
+      at-program .before .before .shorter .ensures,
       leb-half,
       or-kept,
     )

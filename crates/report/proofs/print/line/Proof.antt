@@ -1,28 +1,33 @@
 -- `report::print::line` meets its contract: its parts are written one after the other.
 -- Assumes nothing.
-use Prim.Native.Nat.{_≤_}
+use Prim.Native.Nat.{_^_, _<_, _≤_}
 use native.Mathlib.Omega.{arith}
 use denote.Ref.{now}
 use lib.ListN.{length}
-use Rattle.word.proofs.Signed.{back}
-use Rattle.word.specs.Text.{decimal}
+use lib.Signed.{mag}
+use Rattle.word.proofs.Signed.{back-ok}
+use Rattle.engine.specs.Layout.{lineFrom}
+use Rattle.report.specs.Lines.{headText, lineText}
 use Rattle.report.specs.Written.{Written}
-use Rattle.report.proofs.Texts.{written-room, decimal-short, hexadecimal-length, written-line}
+use Rattle.report.proofs.Texts.{written-room, head-short, line-short, hexadecimal-length, written-line}
 use borrow.Author.Needs.{needs}
 use Rattle.report.proofs.print.line.Statement.{statement}
 use Rattle.report.proofs.print.line.Tie as tie
 
--- the number
-module _ (c : tie.After-signed-number) where
+-- the number, or `end`
+module _ (c : tie.After-head) where
   abbrev start : tie.Start
-  start = c .before .before .before
+  start = c .before .before .before .before .before
 
-  first : Written (decimal (start .args .n)) (now (start .args .out)) (start .args .at) (c .signed-number .result)
-      (c .signed-number .last .1 .0)
-  first = rw (back (start .fits .n)) at (c .signed-number .ensures)
+  bound : mag (start .args .x .number) < 2 ^ 63
+  bound = omega (arith, c .before .struct-told .given)
 
-  short : length (decimal (start .args .n)) ≤ 20
-  short = decimal-short (start .args .n) (start .fits .n .sfits)
+  first : Written (headText (start .args .x .kind) (start .args .x .number)) (now (start .args .out)) (start .args .at) (c .head .result)
+      (c .head .last .1 .1 .0)
+  first = rw (back-ok (start .args .x .number) bound) at (c .head .ensures)
+
+  short : length (headText (start .args .x .kind) (start .args .x .number)) ≤ 20
+  short = head-short (start .args .x .kind) (start .args .x .number) bound
 
 bytes-requires : tie.Need-bytes-requires
 bytes-requires c κs =
@@ -40,7 +45,7 @@ bytes-requires-2 c κs =
     let label = c .before .before .before .before in
     let gap = label .before .before .before .before in
     let n = gap .before .before .before .before .before in
-    written-room 8 1 (omega (arith, hexadecimal-length (start n .args .label .0)))
+    written-room 8 1 (omega (arith, hexadecimal-length (start n .args .x .label .0)))
     (written-room 1 9 (omega arith) (written-room 20 10 (short n) (omega (arith, start n .pre)) (first n)) (gap .bytes .ensures))
     (label .digits .ensures)
 
@@ -50,8 +55,13 @@ returns c =
     let label = last .before .before .before .before .before in
     let gap = label .before .before .before .before in
     let n = gap .before .before .before .before .before in
-    written-line _ _ _ _ _ _ _ _ _ _ _ (start n .fits .n .sfits) (start n .pre)
-    (first n) (gap .bytes .ensures) (label .digits .ensures) (last .bytes2 .ensures)
+    let x = lineFrom (start n .args .x) in
+    let text : Written (lineText x) (now (start n .args .out)) (start n .args .at) (last .bytes2 .result) (last .bytes2 .last .1 .0) =
+    written-line x _ _ _ _ _ _ _ _ _ _ (bound n) (start n .pre)
+    (first n) (gap .bytes .ensures) (label .digits .ensures) (last .bytes2 .ensures) in
+    let near = line-short x (bound n) in
+    let e = text .end in
+    (text, omega arith)
 
 pub line-spec : {M : Type 1} → statement M
 line-spec =

@@ -2,87 +2,90 @@
 -- The measure is the number of lines that are left. Assumes nothing.
 use borrow.Author.Needs.{needs}
 use native.Mathlib.Omega.{arith}
-use mathlib.Core.Path.{_≡_, _∙_, sym, ap, ap₂, subst}
+use mathlib.Core.Path.{_≡_, _∙_, sym, ap, subst}
 use mathlib.Core.List.{List}
-use Prim.Native.Nat.{ℕ, _*_, _-_, _<_, _≤_, min}
+use Prim.Native.Nat.{_*_, _-_, _<_, _≤_, min}
 use denote.Ref.{now}
-use lib.IntN.{ℤ}
 use lib.ListN.{length}
-use Rattle.label.specs.Word.{lowLabel}
-use Rattle.word.proofs.Signed.{back-ok}
 use Rattle.machine.specs.Atom.{Line}
+use Rattle.engine.specs.Memory.{Output, output}
+use Rattle.engine.specs.Layout.{lineIn, linesOf}
+use Rattle.engine.proofs.Pairs.{lines-length}
 use Rattle.report.specs.Lines.{shownText}
 use Rattle.report.specs.Written.{Written}
-use Rattle.report.proofs.Printing.{first, first-length, lineAt, first-at, Printing, printing-start, printing-end, printing-next}
+use Rattle.report.proofs.Printing.{lines-from, Printing, printing-start, printing-end, printing-next}
 use Rattle.report.proofs.print.lines.Statement.{statement}
 use Rattle.report.proofs.print.lines.Tie as tie
 
 abbrev Inv-loop : tie.InvT-loop
-Inv-loop numbers lines written reader out₀ count at₀ i₀ out at i = Printing (reader .0) (first numbers lines written) out₀ out at i
+Inv-loop numbers labels kinds written reader out₀ count at₀ i₀ out at i =
+    Printing (reader .0) (linesOf written (output numbers labels kinds)) out₀ out at i
 
 abbrev μ-loop : tie.MeasureT-loop
-μ-loop numbers lines written reader out₀ count at₀ i₀ out at i = count - i
+μ-loop numbers labels kinds written reader out₀ count at₀ i₀ out at i = count - i
 
 module _ (h : tie.At-loop Inv-loop μ-loop) where
   abbrev start : tie.Start Inv-loop μ-loop
   start = h .before .before .before .before
 
+  abbrev space : Output
+  space = output (now (start .args .numbers)) (now (start .args .line-labels)) (now (start .args .kinds))
+
   abbrev all : List Line
-  all = first (now (start .args .numbers)) (now (start .args .line-labels)) (start .args .written)
+  all = linesOf (start .args .written) space
 
   -- the loop goes to their number
-  counted : h .before .room2 .result ≡ length all
+  counted : h .before .shorter .result ≡ length all
   counted =
-      h .before .room2 .ensures
+      h .before .shorter .ensures
       ∙ ap (λ n. min (start .args .written) n) (h .before .before .room .ensures)
-      ∙ sym (first-length (now (start .args .numbers)) (now (start .args .line-labels)) (start .args .written))
+      ∙ sym (lines-length space (start .args .written))
 
   fits : 30 * length all ≤ length (now (start .args .out))
-  fits = omega (arith, first-length (now (start .args .numbers)) (now (start .args .line-labels)) (start .args .written), start .pre)
+  fits = omega (arith, lines-length space (start .args .written), start .pre)
+
+-- a line was read, and written or left out
+module _ (c : tie.After-slice-known2 Inv-loop μ-loop) where
+  abbrev wrote : tie.After-shown Inv-loop μ-loop
+  wrote = c .before .before
+
+  abbrev read : tie.After-line-at Inv-loop μ-loop
+  read = wrote .before .before
+
+  abbrev head : tie.At-loop Inv-loop μ-loop
+  head = read .before .before
+
+  below : head .loop .i < length (all head)
+  below = omega (arith, counted head, read .before .loop-test .taken)
 
 loop-holds : tie.Need-loop-holds Inv-loop μ-loop
 loop-holds c = printing-start _ _ _
 
 shown-requires : tie.Need-shown-requires Inv-loop μ-loop
 shown-requires c κs =
-    let h = c .before .before .before .before .before in
+    let h = c .before .before .before in
     let i = h .loop .inv in
-    omega (arith, fits h, counted h, c .before .before .before .before .loop-test .taken, i .short, i .same)
+    omega (arith, fits h, counted h, c .before .before .loop-test .taken, i .short, i .same)
 
 add-i : tie.Need-add-i Inv-loop μ-loop
-add-i c =
-    let at-loop-test = c .before .before .before .before .before .before .before in
-    let h = c .before .before .before .before .before .before .before .before in
-    record { fits = omega (arith, at-loop-test .loop-test .taken, h .before .room2 .ok) }
+add-i c = record { fits = omega (arith, read c .before .loop-test .taken, head c .before .shorter .ok) }
 
 loop-less : tie.Need-loop-less Inv-loop μ-loop
-loop-less c =
-    let at-loop-test = c .before .before .before .before .before .before .before in
-    omega (arith, at-loop-test .loop-test .taken)
+loop-less c = omega (arith, read c .before .loop-test .taken)
 
 loop-again : tie.Need-loop-again Inv-loop μ-loop
 loop-again c =
-    let at-loop-test = c .before .before .before .before .before .before .before in
-    let h = c .before .before .before .before .before .before .before .before in
+    let h = head c in
     let a = start h .args in
     let i = h .loop .i in
-    let at = c .before .before .before .before .before .before .at in
-    let at2 = c .before .before .before .before .before .at2 in
-    let below : i < length (all h) = omega (
-      arith,
-      counted h,
-      at-loop-test .loop-test .taken,
-    ) in
-    let line =
-    ap₂ (λ (n : ℤ) (l : ℕ). shownText (a .reader .0) (record { number = n; label = l }))
-    (back-ok (at .result) (at .ok) ∙ at .ensures)
-    (c .before .before .before .before .low .ensures ∙ ap lowLabel (back-ok (at2 .result) (at2 .ok) ∙ at2 .ensures)) in
-    printing-next (a .reader .0) (all h) (now (a .out)) (h .loop .out) (h .loop .at) i (h .loop .inv)
-    (lineAt (now (a .numbers)) (now (a .line-labels)) (a .written) i)
-    (first-at (now (a .numbers)) (now (a .line-labels)) (a .written) i below) below (rw (at .ensures) at (at .ok)) (fits h) _ _
-    (subst (λ (t : List ℕ). Written t (h .loop .out) (h .loop .at) (c .before .before .shown .result)
-    (c .before .before .shown .last .1 .1 .1 .0)) line
-    (c .before .before .shown .ensures))
+    let said = wrote c .shown in
+    printing-next (a .reader .0) (all h) (now (a .out)) (h .loop .out) (h .loop .at) i (h .loop .inv) (lineIn i (space h))
+    (lines-from (space h) (a .written) i (below c)) (below c) (fits h) _ _
+    (subst
+    (λ (x : Line). Written (shownText (a .reader .0) x) (h .loop .out) (h .loop .at) (said .result) (said .last .1 .1 .0))
+    (read c .line-at .ensures)
+    (said .ensures .0))
+    (said .ensures .1)
 
 same-length : tie.Need-same-length Inv-loop μ-loop
 same-length c = c .before .loop .inv .same
@@ -101,8 +104,6 @@ lines-spec =
     (λ c κs. search needs)
     (λ c κs. search needs)
     loop-holds
-    (λ c κs. search needs)
-    (λ c κs. search needs)
     (λ c κs. search needs)
     shown-requires
     add-i
