@@ -2,7 +2,7 @@
 -- bytes of a page say whether its view has one, and where.
 -- Assumes nothing.
 use mathlib.Core.Path.{_≡_, refl, sym, ap, subst, _∙_}
-use mathlib.Core.Logic.{_≢_, _⊎_}
+use mathlib.Core.Logic.{_≢_}
 use mathlib.Core.Bool.{Bool, true, false, _||_}
 use mathlib.Core.List.{List, [], _∷_, _++_, append-nil, append-assoc}
 use Prim.Native.Nat.{ℕ, zero, suc, _+_, _%_, _<_, _≤_}
@@ -15,7 +15,6 @@ use Rattle.word.specs.Choose.{choose}
 use Rattle.word.specs.Text.{digitChar, digitIf, numeral, digitCount, natural, decimal, hexadecimal}
 use Rattle.word.proofs.Bool.{never}
 use Rattle.word.proofs.Laws.Numeral.{numeral-none, numeral-cons, numeral-length}
-use Rattle.label.specs.Label.{flows}
 use Rattle.machine.specs.declared.Kind.{Kind}
 use Rattle.machine.specs.declared.Kind.the-variants.{Number, End}
 use Rattle.machine.specs.Atom.{Line, endLine}
@@ -23,13 +22,12 @@ use Rattle.machine.specs.Holds.{Each}
 use Rattle.machine.specs.Claim.{view}
 use Rattle.machine.specs.End.{isEnd, hasEnd, Whole}
 use Rattle.machine.specs.End as Views
-use Rattle.engine.specs.declared.Ran as Engine
 use Rattle.report.specs.Job.{readJob, sheetOf}
 use Rattle.report.specs.Lines.{space, newline, headText, lineText}
 use Rattle.report.specs.Page.{pageOf}
-use Rattle.claims.specs.Pages.{readerOf, endText, Ends, Tells, Complete, Cut}
+use Rattle.claims.specs.Pages.{readerOf, endText, Ends, Tells, Complete, Means, Meant}
 use Rattle.claims.proofs.Starts.{texts, texts-append, texts-start}
-use Rattle.claims.proofs.Private.{runs-complete, runs-whole, runs-cut}
+use Rattle.claims.proofs.Private.{runs-complete, runs-whole, runs-meant}
 use Rattle.claims.proofs.PagesPrivate.{Shown, shown, pages-related}
 
 -- ════════════════════════════════════════════════════════════════════════════════════════════
@@ -203,14 +201,19 @@ unended v never-ends last = go (hasEnd v) refl
     go true e = let w = last e in absurd (never-ends (texts lineText (w .before), w .label, whole-page v w))
     go false e = refl
 
-pub pages-cut : Cut
-pages-cut job e never-ends r stopped =
+pub pages-meant : Meant
+pages-meant job e r stopped =
     let s : Shown (readJob job .heard) (sheetOf job) (pageOf job) = shown job e in
     let v = view (readerOf job) (s .lines) in
     let same : s .ran ≡ r = let x = sym (s .stopped) ∙ stopped in cc in
-    let none = unended v (subst (λ (p : List ℕ). Ends p → ⊥) (s .is) never-ends) (runs-whole _ _ _ _ _ (s .by)) in
-    subst (λ (x : Engine.Ran). (x .stop ≢ 0) ⊎ (flows (x .machine .label .0) (readerOf job) ≡ false)) same
-    (runs-cut (readerOf job) (sheetOf job) _ (s .ran) (s .lines) (s .by) none)
+    let means : Views.Means (readerOf job) v (s .ran .stop) (s .ran .machine .label .0) = runs-meant _ _ _ _ _ (s .by) in
+    subst (Means job) same
+    (record {
+      present = λ ends. means .present (ends-end v (subst Ends (s .is) ends));
+      missing =
+          λ never-ends.
+          means .missing (unended v (subst (λ (p : List ℕ). Ends p → ⊥) (s .is) never-ends) (runs-whole _ _ _ _ _ (s .by)));
+    })
 
 pub pages-complete : Complete
 pages-complete = pages-related Views.Tells runs-complete Tells views-tell

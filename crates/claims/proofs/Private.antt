@@ -15,11 +15,11 @@ use Rattle.machine.specs.Rule.{standard, fixed}
 use Rattle.machine.specs.State.{start}
 use Rattle.machine.specs.Claim.{view, OneStartsOther, Alike, none, same}
 use Rattle.machine.specs.Claim as Machine
-use Rattle.machine.specs.End.{hasEnd, Whole, Tells, Missing}
+use Rattle.machine.specs.End.{hasEnd, Whole, Tells, Means}
 use Rattle.machine.specs.Run.{Result, run}
 use Rattle.machine.proofs.Holds.{run-range, standard-range}
 use Rattle.machine.proofs.Privacy.{standard-private}
-use Rattle.machine.proofs.End.{standard-complete, cut}
+use Rattle.machine.proofs.End.{standard-complete, meant}
 use Rattle.engine.specs.declared.Ran as Engine
 use Rattle.engine.specs.declared.Answer.the-variants as Answer
 use Rattle.engine.specs.Memory.{Memory, room}
@@ -32,7 +32,7 @@ use Rattle.plain.specs.Plain.{plain}
 use Rattle.tagging.specs.Consult.{Tag}
 use Rattle.tagged.specs.Tagged.{left, tagged}
 use Rattle.claims.specs.Refusals.{Nothing, Checks, noneOwn, taggedOwn}
-use Rattle.claims.specs.Privacy.{cellsIn, linesIn, Ran, onPlain, onTagged, Views, Claim, Complete, Cut}
+use Rattle.claims.specs.Privacy.{cellsIn, linesIn, Ran, onPlain, onTagged, Views, Claim, Complete, Meant}
 use Rattle.claims.proofs.Refusals.{plain-demand, tagged-demand}
 use Rattle.claims.proofs.Both.{tagged-plain}
 
@@ -103,13 +103,13 @@ pub runs-whole : (S : ℕ) (sheet : List ℕ) (cells : List Atom) (ran : Engine.
 runs-whole S sheet cells ran lines r =
     runs-complete S sheet cells cells ran ran lines lines r r (alike-same S cells) .whole
 
-pub runs-cut : Cut
-runs-cut S sheet cells ended lines ran =
+pub runs-meant : Meant
+runs-meant S sheet cells ended lines ran =
     let r = ran-runs sheet ran in
     let result : Result Unit = run (fixed standard) (r .room) (r .commands) (r .fuel) (start cells) tt in
-    subst (λ (ls : List Line). Missing S (view S ls) (ended .stop) (ended .machine .label .0)) (sym (r .are))
-    (subst (λ (x : Engine.Ran). Missing S (view S (result .state .lines)) (x .stop) (x .machine .label .0)) (sym (r .ended))
-    (cut Unit (fixed standard) (r .commands) S cells (r .room) (r .fuel) tt))
+    subst (λ (ls : List Line). Means S (view S ls) (ended .stop) (ended .machine .label .0)) (sym (r .are))
+    (subst (λ (x : Engine.Ran). Means S (view S (result .state .lines)) (x .stop) (x .machine .label .0)) (sym (r .ended))
+    (meant Unit (fixed standard) (r .commands) S cells (r .room) (r .fuel) tt))
 
 -- ════════════════════════════════════════════════════════════════════════════════════════════
 -- What the claim covers: there is such a run wherever no limit is broken (demand 1)

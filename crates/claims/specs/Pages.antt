@@ -3,7 +3,7 @@
 use Prim.Native.Nat.{ℕ, _<_, _≤_}
 use mathlib.Core.Path.{_≡_}
 use mathlib.Core.Logic.{_≢_, _⊎_}
-use mathlib.Core.Bool.{false}
+use mathlib.Core.Bool.{true, false}
 use mathlib.Core.List.{List, [], _++_}
 use lib.ListN.{length, drop, getD}
 use Rattle.label.specs.Label.{flows}
@@ -80,14 +80,17 @@ pub record Tells (p q : List ℕ) : Type 0 where
 abbrev pub Complete : Type 0
 Complete = Related Tells
 
--- and what its absence tells: the run met another stop than 0, or it ended at a place whose label is outside the reader's set
+-- and what it tells of the run: with it, that the run met stop 0, at a place whose label is inside the reader's set; without, that it met
+-- another stop, or that it ended at a place whose label is outside
 abbrev pub answerTo : List ℕ → Answer
 answerTo job = let h : Heard = readJob job .heard in endFor (cellWordsOf h) (h .allowance) (sheetOf job) .ended .answer
 
-abbrev pub Cut : Type 0
-Cut =
-    (job : List ℕ) → fateOf job ≡ ran → (Ends (pageOf job) → ⊥) →
-    (r : Engine.Ran) → answerTo job ≡ Answer.Stopped r → (r .stop ≢ 0) ⊎ (flows (r .machine .label .0) (readerOf job) ≡ false)
+pub record Means (job : List ℕ) (r : Engine.Ran) : Type 0 where
+  pub present : Ends (pageOf job) → (r .stop ≡ 0) × (flows (r .machine .label .0) (readerOf job) ≡ true)
+  pub missing : (Ends (pageOf job) → ⊥) → (r .stop ≢ 0) ⊎ (flows (r .machine .label .0) (readerOf job) ≡ false)
+
+abbrev pub Meant : Type 0
+Meant = (job : List ℕ) → fateOf job ≡ ran → (r : Engine.Ran) → answerTo job ≡ Answer.Stopped r → Means job r
 
 -- a job that is not run prints one line, which says so and nothing else
 abbrev pub Says : List ℕ → Fate → Type 0

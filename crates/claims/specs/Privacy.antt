@@ -8,7 +8,7 @@ use lib.IntN.{ℤ}
 use lib.ListN.{length}
 use Rattle.machine.specs.Atom.{Atom, Line}
 use Rattle.machine.specs.Claim.{view, Alike, OneStartsOther}
-use Rattle.machine.specs.End.{Tells, Missing}
+use Rattle.machine.specs.End.{Tells, Means}
 use Rattle.engine.specs.declared.Ran as Engine
 use Rattle.engine.specs.declared.Answer.the-variants as Answer
 use Rattle.engine.specs.Memory.{Memory}
@@ -56,8 +56,8 @@ Claim = Views OneStartsOther
 abbrev pub Complete : Type 0
 Complete = Views Tells
 
--- and what its absence tells: the run met another stop than 0, or it ended at a place whose label is outside the set
-abbrev pub Cut : Type 0
-Cut =
+-- and what it tells of its run, present or missing
+abbrev pub Meant : Type 0
+Meant =
     (S : ℕ) (sheet : List ℕ) (cells : List Atom) (ran : Engine.Ran) (lines : List Line) →
-    Ran sheet cells ran lines → Missing S (view S lines) (ran .stop) (ran .machine .label .0)
+    Ran sheet cells ran lines → Means S (view S lines) (ran .stop) (ran .machine .label .0)

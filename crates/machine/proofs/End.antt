@@ -3,14 +3,14 @@
 -- is the longer.
 -- Assumes nothing.
 use mathlib.Core.Path.{_≡_, refl, sym, ap, subst, _∙_}
-use mathlib.Core.Logic.{_≢_, _⊎_, inl, inr}
+use mathlib.Core.Logic.{inl, inr}
 use mathlib.Core.Bool.{Bool, true, false, _||_}
 use mathlib.Core.List.{List, [], _∷_, _++_, append-nil}
 use Prim.Native.Nat.{ℕ}
 use native.Mathlib.Omega.{arith}
 use lib.ListN.{length, drop, take-append-drop}
 use lib.Dec.{eqb}
-use borrow.Author.Tests.{eqb-false}
+use borrow.Author.Tests.{eqb-true, eqb-false}
 use lib.Seq.{take-length}
 use Rattle.word.specs.Choose.{choose}
 use Rattle.word.proofs.Bool.{never}
@@ -21,7 +21,7 @@ use Rattle.machine.specs.Rule.{Ruler, rules, fixed, standard}
 use Rattle.machine.specs.State.{State, Stop, start, stopNumber}
 use Rattle.machine.specs.Run.{Result, run}
 use Rattle.machine.specs.Claim.{view, keep, Start, OneStartsOther, Views}
-use Rattle.machine.specs.End.{isEnd, hasEnd, Whole, Tells, Complete, Missing, Cut}
+use Rattle.machine.specs.End.{isEnd, hasEnd, Whole, Tells, Complete, Means, Meant}
 use Rattle.machine.proofs.Step.{run-induction}
 use Rattle.machine.proofs.Execute.{Change}
 use Rattle.machine.proofs.Run.{stopped-other, stepped-explained}
@@ -108,18 +108,22 @@ module _ (S : ℕ) (x : Stop) (s : State) (c : Closes x s) where
       go true false f = rw (f, append-nil) (without none)
       go false k f = rw append-nil (without none)
 
-  pub closes-missing : Missing S (view S (s .lines)) (stopNumber x) (s .pc .label)
-  closes-missing e = go (eqb (stopNumber x) 0) (flows (s .pc .label) S) refl refl
+  -- whether it has an end line is whether one stands after the numbers
+  ended : (tail : List Line) → view S (closing x (s .pc .label)) ≡ tail → hasEnd (view S (s .lines)) ≡ hasEnd tail
+  ended tail e =
+      ap hasEnd split ∙ ap (λ ls. hasEnd (numbers ++ ls)) e ∙ hasEnd-append numbers tail ∙ ap (λ b. b || hasEnd tail) none
+
+  pub closes-means : Means S (view S (s .lines)) (stopNumber x) (s .pc .label)
+  closes-means = go (eqb (stopNumber x) 0) (flows (s .pc .label) S) refl refl
     where
-      go : (b k : Bool) → eqb (stopNumber x) 0 ≡ b → flows (s .pc .label) S ≡ k → (stopNumber x ≢ 0) ⊎ (flows (s .pc .label) S ≡ false)
-      go false k f g = inl (eqb-false (stopNumber x) 0 f)
-      go true false f g = inr g
+      go : (b k : Bool) → eqb (stopNumber x) 0 ≡ b → flows (s .pc .label) S ≡ k
+          → Means S (view S (s .lines)) (stopNumber x) (s .pc .label)
       go true true f g =
-          let tail : view S (closing x (s .pc .label)) ≡ endLine (s .pc .label) ∷ [] = rw (f, g) in
-          let ended : hasEnd (view S (s .lines)) ≡ true =
-          ap hasEnd split ∙ ap (λ ls. hasEnd (numbers ++ ls)) tail ∙ hasEnd-append numbers (endLine (s .pc .label) ∷ [])
-          ∙ ap (λ b. b || true) none in
-          never (cc)
+          let is = ended (endLine (s .pc .label) ∷ []) (rw (f, g)) in
+          record { present = λ e. (eqb-true (stopNumber x) 0 f, g); missing = λ e. never (cc) }
+      go true false f g = let is = ended [] (rw (f, g)) in record { present = λ e. never (cc); missing = λ e. inr g }
+      go false k f g =
+          let is = ended [] (rw f) in record { present = λ e. never (cc); missing = λ e. inl (eqb-false (stopNumber x) 0 f) }
 
 -- ════════════════════════════════════════════════════════════════════════════════════════════
 -- Two views
@@ -186,5 +190,5 @@ complete Q R σ ρ refines₁ refines₂ cs S cells₁ cells₂ alike room₁ ro
 pub standard-complete : Views Tells (fixed standard) (fixed standard)
 standard-complete = complete Unit Unit (fixed standard) (fixed standard) (λ u k p r e. e) (λ u k p r e. e)
 
-pub cut : Cut
-cut R ρ cs S cells room fuel u = closes-missing S _ _ (run-closes ρ room cs fuel (start cells) u refl)
+pub meant : Meant
+meant R ρ cs S cells room fuel u = closes-means S _ _ (run-closes ρ room cs fuel (start cells) u refl)

@@ -41,13 +41,15 @@ pub record Tells (v w : List Line) : Type 0 where
 abbrev pub Complete : Type 1
 Complete = (Q R : Type 0) (σ : Ruler Q) (ρ : Ruler R) → Refines σ → Refines ρ → Views Tells σ ρ
 
--- a view without an end line is of a run that met another stop than 0, or that ended at a place whose label is outside the set
-abbrev pub Missing : ℕ → (view : List Line) → (stop label : ℕ) → Type 0
-Missing S view stop label = hasEnd view ≡ false → (stop ≢ 0) ⊎ (flows label S ≡ false)
+-- what a view tells of its run: with an end line, that the run met stop 0, at a place whose label is inside the set; without, that it met
+-- another stop, or that it ended at a place whose label is outside
+pub record Means (S : ℕ) (view : List Line) (stop label : ℕ) : Type 0 where
+  pub present : hasEnd view ≡ true → (stop ≡ 0) × (flows label S ≡ true)
+  pub missing : hasEnd view ≡ false → (stop ≢ 0) ⊎ (flows label S ≡ false)
 
 -- of every run
-abbrev pub Cut : Type 1
-Cut =
+abbrev pub Meant : Type 1
+Meant =
     (R : Type 0) (ρ : Ruler R) (program : List Command) (S : ℕ) (cells : List Atom) (room fuel : ℕ) (u : R)
     → let r : Result R = run ρ room program fuel (start cells) u in
-    Missing S (view S (r .state .lines)) (stopNumber (r .stop)) (r .state .pc .label)
+    Means S (view S (r .state .lines)) (stopNumber (r .stop)) (r .state .pc .label)
