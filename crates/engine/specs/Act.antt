@@ -1,4 +1,4 @@
--- One command on lent words: what it finds, what a ruler says of it, what it does.
+-- One command on lent words: what it finds, what a ruler says of it, what it does; then its line, and the end line.
 use Prim.Native.Nat.{ℕ}
 use mathlib.Core.Bool.{Bool, false}
 use lib.IntN.{ℤ, pos}

@@ -75,7 +75,7 @@ lineOf a w = record { kind = kindOf w; number = a .number; label = a .label }
 abbrev pub lineIn : ℕ → Output → Line
 lineIn i o = lineOf (atomOf (getD (o .numbers) i (pos 0)) (getD (o .labels) i (pos 0))) (getD (o .kinds) i (pos 0))
 
--- as the code has it
+-- the line that a record of the code is
 abbrev pub lineFrom : Code.Line → Line
 lineFrom x = record { kind = x .kind; number = x .number; label = x .label .0 }
 

@@ -96,7 +96,7 @@ module _ (S : ℕ) (x : Stop) (s : State) (c : Closes x s) where
   none : hasEnd numbers ≡ false
   none = view-unended S (c .numbers) (c .unended)
 
-  -- at stop 0, and where the place is inside the set
+  -- it is what is seen of the numbers, and then of what stands after them
   split : view S (s .lines) ≡ numbers ++ view S (closing x (s .pc .label))
   split = ap (view S) (c .lines) ∙ view-append S (c .numbers) (closing x (s .pc .label))
 

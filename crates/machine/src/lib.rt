@@ -1,4 +1,5 @@
-// The machine of document 01, as definitions and theorems; it has no code. Read in specs/: Atom, Rule, State, Step, Run; then Claim.
+// The machine of document 01, as definitions and theorems; it has no code but a type. Read in specs/: Atom, Rule, State, Step, Run; then
+// Claim and End.
 
 // What a line is: the number of an Output, or the end of the page. What the definitions speak of, and the engines write.
 pub enum Kind {
