@@ -56,7 +56,8 @@ enum {
     LUVRODAN_STOP_ADDRESS = 5,           /* an address outside the cells */
     LUVRODAN_STOP_DENIED = 6,            /* the rule does not allow the command */
     LUVRODAN_STOP_STACK = 7,             /* the stack is full */
-    LUVRODAN_STOP_OUTPUT = 8             /* the output space is full: for an Output, or at the end for the end line */
+    LUVRODAN_STOP_OUTPUT = 8,            /* the output space is full: for an Output, or at the end for the end line */
+    LUVRODAN_STOP_OVERFLOW = 9           /* a sum or difference outside 64 bits; tested after 6, before 7 and 8 */
 };
 
 /* Kinds of lines (the words of kinds). */

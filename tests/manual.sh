@@ -3,8 +3,8 @@
 # - Its examples: a block ```job has a job in hexadecimal bytes, the block ```page after it what `page` must print. What follows a # in a
 #   job says its line's bytes in words: items of a job and commands of a sheet between commas, the number of the first command and a colon
 #   before them. The codes and widths that the words are spelled with come from the manual's own table of commands.
-# - That table is the definition's in crates/program, the bytes of its standard rules are those of crates/policy, its limits those of
-#   include/luvrodan.h.
+# - That table is the definition's in crates/program, the bytes of its standard rules are those of crates/policy, its limits and the numbers
+#   of its stops those of include/luvrodan.h.
 set -u
 cd "$(dirname "$0")/.." || exit 2
 . tests/page/bytes.sh
@@ -106,10 +106,13 @@ for job in "$scratch"/*.job; do
     fi
 done
 
-# the standard rules, and the limits
+# the standard rules, the stops, and the limits
 rules=$(sed -nE 's/^\| [A-Z][a-z]+ \|.*\| `(1[0-9 ]*)` \|$/\1/p' "$manual" | xargs)
 table=$(sed -nE 's/^ *0x([0-9a-f]+),$/\1/p' crates/policy/src/standard_table.rt | xargs)
 [ -n "$table" ] && [ "$rules" = "$table" ] || wrong "the bytes of the standard rules are not the standard table: $rules"
+stops=$(sed -nE '/^## 4\. /,/^## 5\. /s/^\| ([0-9]+) \|.*/\1/p' "$manual" | sort -n | xargs)
+named=$(sed -nE 's/^ *LUVRODAN_STOP_[A-Z]+ = ([0-9]+).*/\1/p' include/luvrodan.h | xargs)
+[ -n "$named" ] && [ "$stops" = "$named" ] || wrong "the stops are not those of include/luvrodan.h: $stops"
 sed -nE 's/^\|.*\| ([0-9,]+) \| `(LUVRODAN_[A-Z_]+)` \|$/\2 \1/p; s/^\|.*`(LUVRODAN_[A-Z_]+)` \(([0-9,]+)\).*/\1 \2/p' "$manual" |
     tr -d , > "$scratch/limits"
 limits=0

@@ -57,7 +57,7 @@ fn single(code: i64, operand: i64) -> Op {
     }
 }
 
-/// The commands of a program, each Push fused with its successor where that cannot stop by its operand.
+/// The commands of a program, each Push fused with its successor where that cannot stop by its operand alone.
 fn decode(program: &[i64], cells: usize) -> Vec<Op> {
     let words: Vec<(i64, i64)> = program.chunks_exact(2).map(|pair| (pair[0], pair[1])).collect();
     let op = |index: usize| {
@@ -133,14 +133,17 @@ fn run(ops: &[Op], lent: &mut Lent, fuel: u64) -> Report {
             high = high.max(depth + 1);
         };
     }
-    // A fused command that stops leaves its Push carried out.
+    // A fused command that stops leaves its Push carried out: its entry was written, or is now.
     macro_rules! pushed {
-        ($number:expr, $stop:expr) => {{
-            above!($number, 0);
+        ($stop:expr) => {{
             depth += 1;
             pc += 1;
             left -= 1;
             break $stop;
+        }};
+        ($number:expr, $stop:expr) => {{
+            above!($number, 0);
+            pushed!($stop)
         }};
     }
 
@@ -172,7 +175,11 @@ fn run(ops: &[Op], lent: &mut Lent, fuel: u64) -> Report {
                     pushed!(number, Stop::ValueMissing);
                 }
                 above!(number, 0);
-                entry!(0).number = number.wrapping_add(entry!(0).number);
+                let (sum, outside) = number.overflowing_add(entry!(0).number);
+                if outside {
+                    pushed!(Stop::Overflow);
+                }
+                entry!(0).number = sum;
                 pc += 2;
                 left -= 1;
             }
@@ -181,7 +188,11 @@ fn run(ops: &[Op], lent: &mut Lent, fuel: u64) -> Report {
                     pushed!(number, Stop::ValueMissing);
                 }
                 above!(number, 0);
-                entry!(0).number = number.wrapping_sub(entry!(0).number);
+                let (difference, outside) = number.overflowing_sub(entry!(0).number);
+                if outside {
+                    pushed!(Stop::Overflow);
+                }
+                entry!(0).number = difference;
                 pc += 2;
                 left -= 1;
             }
@@ -232,9 +243,10 @@ fn run(ops: &[Op], lent: &mut Lent, fuel: u64) -> Report {
                 }
                 let (top, under) = (entry!(0), entry!(1));
                 let number = match op {
-                    Op::Add => top.number.wrapping_add(under.number),
-                    _ => top.number.wrapping_sub(under.number),
+                    Op::Add => top.number.checked_add(under.number),
+                    _ => top.number.checked_sub(under.number),
                 };
+                let Some(number) = number else { break Stop::Overflow };
                 entry!(1) = Entry { number, label: top.label | under.label, frame: false };
                 depth -= 1;
                 pc += 1;

@@ -137,11 +137,13 @@ fn run(count: usize, lent: &mut Lent, fuel: u64) -> Report {
                     break Stop::ValueMissing;
                 }
                 let (top, under) = (3 * (depth - 1), 3 * (depth - 2));
-                stack[under + 1] = if code == 1 {
-                    stack[top + 1].wrapping_add(stack[under + 1])
-                } else {
-                    stack[top + 1].wrapping_sub(stack[under + 1])
-                };
+                let (left, right) = (stack[top + 1], stack[under + 1]);
+                let (sum, outside) =
+                    if code == 1 { left.overflowing_add(right) } else { left.overflowing_sub(right) };
+                if outside {
+                    break Stop::Overflow;
+                }
+                stack[under + 1] = sum;
                 stack[under + 2] |= stack[top + 2];
                 depth -= 1;
                 pc += 1;

@@ -31,7 +31,7 @@ pub fn tagged(
     Ok(run(commands, lent, fuel))
 }
 
-/// The kernel: whether it returned, and its steps.
+/// The kernel: whether it returned, and its steps. Its sums wrap.
 #[inline(never)]
 fn handle(handler: &[i64], memory: &mut [i64; 7]) -> (bool, u64) {
     let mut stack = [0i64; 65];
@@ -165,8 +165,9 @@ fn run(count: usize, lent: &mut Lent, fuel: u64) -> Report {
         match code {
             1 | 2 => {
                 let (left, right) = (stack[top + 1], stack[under + 1]);
-                stack[under + 1] =
-                    if code == 1 { left.wrapping_add(right) } else { left.wrapping_sub(right) };
+                let sum = if code == 1 { left.checked_add(right) } else { left.checked_sub(right) };
+                let Some(sum) = sum else { break Stop::Overflow };
+                stack[under + 1] = sum;
                 stack[under + 2] = result;
                 depth -= 1;
             }

@@ -1,10 +1,12 @@
-//! What is measured gives the model's answers.
+//! What is measured gives the model's answers, and the workloads go on as long as they are measured.
 
+use bench::workloads::all;
 use bench::{fast, safe, tags};
 use differential::backend::{Answer, Backend, Itself};
 use differential::compare::compare_case;
 use differential::tally::Tally;
-use model::engine::Lent;
+use model::engine::{Lent, ALLOWANCE};
+use model::machine::Stop;
 use model::rules::Table;
 use model::sample::Sample;
 
@@ -52,5 +54,17 @@ fn interpreters_agree_with_the_model() {
         for case in 0..20_000 {
             compare_case(&InRust { fast }, 3, case, &mut tally).unwrap();
         }
+        for engine in [tally.plain, tally.tagged] {
+            assert!(engine.stops.iter().all(|&count| count > 0), "{:?}", engine.stops);
+        }
+    }
+}
+
+/// A sum that grows would stop them.
+#[test]
+fn workloads_spend_their_allowance() {
+    for workload in all() {
+        let report = safe::plain(&workload.sheet, &mut workload.lent(&[]), ALLOWANCE).unwrap();
+        assert_eq!((report.stop, report.steps), (Stop::AllowanceSpent, ALLOWANCE), "{}", workload.name);
     }
 }

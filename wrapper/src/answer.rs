@@ -59,6 +59,8 @@ pub enum Stop {
     NotAllowed = 6,
     StackFull = 7,
     OutputFull = 8,
+    /// A sum or difference outside 64 bits; tested after `NotAllowed`, before the two that are full.
+    Overflow = 9,
 }
 
 /// What an accepted run came to. Faults and kernel steps are 0 from the plain engine.
@@ -134,6 +136,7 @@ impl fmt::Display for Stop {
             Stop::NotAllowed => "not allowed",
             Stop::StackFull => "stack full",
             Stop::OutputFull => "output space full",
+            Stop::Overflow => "result outside 64 bits",
         })
     }
 }
@@ -180,6 +183,7 @@ fn report(raw: RawResult) -> Report {
         6 => Stop::NotAllowed,
         7 => Stop::StackFull,
         8 => Stop::OutputFull,
+        9 => Stop::Overflow,
         number => panic!("stop {number} is not of this interface"),
     };
     Report {

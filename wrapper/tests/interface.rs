@@ -85,6 +85,27 @@ fn stack_and_stops() {
 }
 
 #[test]
+fn overflow() {
+    // A line, then 2^63-1 and 1 in place of their sum; the Add has been ruled on.
+    let sheet = sheet(&[&push(3), &[4], &push(i64::MAX), &push(1), &[1, 4]]);
+    let mut machine = Machine::new(&CELLS, 9);
+    let stack = [i64::MAX, 1].map(|number| Entry::Value(Atom { number, label: 0 }));
+    for engine in ["plain", "tagged"] {
+        let report = match engine {
+            "plain" => machine.run_plain(&sheet, 100),
+            _ => machine.run_tagged(&sheet, &STANDARD_TABLE, 100),
+        }
+        .unwrap();
+        assert_eq!((report.stop, report.steps, report.place), (Stop::Overflow, 4, 4));
+        assert_eq!((report.stop.number(), report.stop.to_string()), (9, "result outside 64 bits".into()));
+        assert_eq!(machine.stack().collect::<Vec<_>>(), stack);
+        assert_eq!(view(&machine, 1), ["3 00000000"]);
+        assert!(!machine.view_is_whole(1));
+    }
+    assert_eq!(machine.rule_memory(), [1, 0, 0, 0, -1, 0, 0]);
+}
+
+#[test]
 fn refusals() {
     let mut machine = Machine::new(&CELLS, 0);
     let mut refused = |sheet: &[u8], fuel| machine.run_plain(sheet, fuel).unwrap_err();

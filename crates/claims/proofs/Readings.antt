@@ -13,10 +13,12 @@ use Rattle.label.specs.Word.{stored, lowLabel}
 use Rattle.program.specs.Command.{opcodeOf}
 use Rattle.program.specs.Decode.{decodeFrom, decode}
 use Rattle.program.specs.Encode.{encode}
+use Rattle.machine.specs.Rule.{standard}
 use Rattle.machine.specs.Step.{request, execute}
 use Rattle.machine.specs.Run.{step, asked, run, along}
 use Rattle.engine.specs.Layout.{paired}
 use Rattle.engine.specs.Start.{labelsLimit, startOf}
+use Rattle.plain.specs.Plain.{plain}
 use Rattle.policy.specs.Token.{tokenOf, tokenAt}
 use Rattle.policy.specs.Read.{readLabel, readCondition, readRuleWith, readRules, readTable}
 use Rattle.policy.specs.Row.{acceptedRow}
@@ -36,5 +38,5 @@ unfolding given pageOf runText readJob readFrom itemAt fourAt lineText linesText
     bitsAt unsignedAt signedAt bytesOf laid digitChar numeral digitCount natural decimal hexadecimal union subset join flows stored
     lowLabel opcodeOf decodeFrom decode encode request execute step asked run along paired labelsLimit tokenOf tokenAt readLabel
     readCondition readRuleWith readRules readTable acceptedRow evaluate orWord effect handle Kernel.step Kernel.run compileRule translate
-    matches consult startOf tagged
+    matches consult startOf standard plain tagged
 readings-hold = refl

@@ -1,5 +1,5 @@
--- Document 01's twelve starred readings, R1 to R12, with request U1's end lines, and what they leave open: what is asked of the tag engine
--- and of the page, and what each must give. proofs/Readings.antt computes them.
+-- Document 01's twelve starred readings, R1 to R12, with request U1's end lines and U2's stop 9, and what they leave open: what is asked of
+-- the engines and of the page, and what each must give. proofs/Readings.antt computes them.
 use Prim.Native.Nat.{ℕ, _^_, _*_, _-_}
 use mathlib.Core.List.{List, [], _∷_, _++_, map}
 use lib.IntN.{ℤ, pos, negsuc}
@@ -15,6 +15,7 @@ use Rattle.engine.specs.declared.Answer.the-variants as Answer
 use Rattle.engine.specs.Memory.{output, Memory}
 use Rattle.engine.specs.Memory as Lent
 use Rattle.engine.specs.Ended.{Ended}
+use Rattle.plain.specs.Plain.{plain}
 use Rattle.policy.specs.Standard.{standardBytes}
 use Rattle.tagging.specs.Consult.{Tag}
 use Rattle.tagged.specs.Tagged.{tagged}
@@ -33,9 +34,10 @@ pub record Setting : Type 0 where
   pub room : ℕ
   pub fuel : ℕ
 
--- a start; the cells and the rule memory that its run leaves; a job's page
+-- a start of the tag engine, and of the plain engine; the cells and the rule memory that the tag engine's run leaves; a job's page
 pub data Question : Type 0 where
   startOf : Setting → Question
+  plainStart : Setting → Question
   cellsAfter : Setting → Question
   rowAfter : Setting → Question
   pageFor : List ℕ → Question
@@ -48,14 +50,16 @@ pub data Given : Type 0 where
   words : List ℤ → Given
   page : List ℕ → Given
 
--- the tag engine on the sheet's bytes: the standard table, C0 = 7 label 0 and C1 with label 1, and the page program's spaces but for its
--- lines
-abbrev pub execute : Setting → Ended Tag
-execute s =
+-- what is lent: C0 = 7 label 0 and C1 with label 1, and the page program's spaces but for its lines
+abbrev pub lentTo : Setting → Memory
+lentTo s =
     let m : Memory = lentFor (cells (pos 7 ∷ s .c1 ∷ []) (pos 0 ∷ pos 1 ∷ [])) in
     let lines = zeros (s .room) in
-    let lent : Memory = Lent.memory (m .program) (m .lent) (output lines lines lines) in
-    tagged (encode (s .program)) standardBytes (s .row) lent (zeros (2 * 151)) (s .fuel) .ended
+    Lent.memory (m .program) (m .lent) (output lines lines lines)
+
+-- the tag engine on the sheet's bytes and the standard table
+abbrev pub execute : Setting → Ended Tag
+execute s = tagged (encode (s .program)) standardBytes (s .row) (lentTo s) (zeros (2 * 151)) (s .fuel) .ended
 
 abbrev pub ending : Answer → Memory → Given
 ending (Answer.Refused r) m = refused (r .code) (r .position)
@@ -63,6 +67,7 @@ ending (Answer.Stopped x) m = run (x .stop) (x .steps) (linesIn x m)
 
 unfoldable pub given : Question → Given
 given (startOf s) = let e : Ended Tag = execute s in ending (e .answer) (e .memory)
+given (plainStart s) = let e : Ended Unit = plain (encode (s .program)) (lentTo s) (s .fuel) in ending (e .answer) (e .memory)
 given (cellsAfter s) = memory (cellsIn (execute s .memory))
 given (rowAfter s) = words (execute s .ruler .row)
 given (pageFor job) = page (pageOf job)
@@ -102,18 +107,39 @@ abbrev pub usual : List Command → Setting
 usual program = sufficing program (pos 5)
 
 -- an allowance; room for so many lines; a rule memory, on the empty sheet
-abbrev pub paid : ℕ → List Command → Setting
-paid fuel program = record { program = program; c1 = pos 5; row = zeros 7; room = 16; fuel = fuel }
-
 abbrev pub narrow : (room fuel : ℕ) → List Command → Setting
 narrow room fuel program = record { program = program; c1 = pos 5; row = zeros 7; room = room; fuel = fuel }
+
+abbrev pub paid : ℕ → List Command → Setting
+paid fuel program = narrow 16 fuel program
 
 abbrev pub from : List ℤ → Setting
 from row = record { program = []; c1 = pos 5; row = row; room = 16; fuel = 1_000_000 }
 
--- a run is all that a reading says
+-- a start of the tag engine alone, for its rule memory
 abbrev pub only : Setting → Given → List Fact
 only s g = fact (startOf s) g ∷ []
+
+-- a run that every engine has
+abbrev pub each : Setting → Given → List Fact
+each s g = fact (startOf s) g ∷ fact (plainStart s) g ∷ []
+
+-- two numbers, the second on top, and what is made of them is written; it is the one line, or it is stop 9 after the two Pushes
+abbrev pub made : (next top : ℤ) → Command → List Command
+made next top c = Push next ∷ Push top ∷ c ∷ Output ∷ []
+
+abbrev pub makes : (next top : ℤ) → Command → ℤ → List Fact
+makes next top c n = each (usual (made next top c)) (run 0 4 (line n 0 ∷ ends 0))
+
+abbrev pub overflows : (next top : ℤ) → Command → List Fact
+overflows next top c = each (usual (made next top c)) (run 9 2 [])
+
+-- the least number of 64 bits, and the largest (`negsuc n` is −(n + 1))
+abbrev pub least : ℤ
+least = negsuc (2 ^ 63 - 1)
+
+abbrev pub largest : ℤ
+largest = pos (2 ^ 63 - 1)
 
 -- R1 as a job, and the lines of its pages:
 -- an 8-byte number and a 4-byte field, below 256
@@ -165,31 +191,34 @@ abbrev pub readings : List (List Fact)
 readings =
     -- R1: a sum of a cell of label 1 and one of label 0 has label 1; for reader 1 the page has both lines, for reader 0 the second only;
     -- both end in `end`
-    (fact
-    (startOf (usual (Push (pos 1) ∷ Load ∷ Push (pos 0) ∷ Load ∷ Add ∷ Output ∷ Push (pos 0) ∷ Load ∷ Output ∷ [])))
+    (each
+    (usual (Push (pos 1) ∷ Load ∷ Push (pos 0) ∷ Load ∷ Add ∷ Output ∷ Push (pos 0) ∷ Load ∷ Output ∷ []))
     (run 0 9 (line (pos 12) 1 ∷ line (pos 7) 0 ∷ ends 0))
-    ∷ fact (pageFor (jobR1 (reader 1))) (page (lineTwelve ++ lineSeven ++ lineEnd))
+    ++ (fact (pageFor (jobR1 (reader 1))) (page (lineTwelve ++ lineSeven ++ lineEnd))
     ∷ fact (pageFor (jobR1 (reader 0))) (page (lineSeven ++ lineEnd))
-    ∷ [])
+    ∷ []))
     -- R2, R3: what is written after a branch on a cell of label 1 has label 1, taken or not, and so has the end line
-    ∷ only (usual branching) (run 0 5 (line (pos 9) 1 ∷ ends 1))
-    ∷ only (sufficing branching (pos 0)) (run 0 7 (line (pos 0) 1 ∷ line (pos 9) 1 ∷ ends 1))
+    ∷ each (usual branching) (run 0 5 (line (pos 9) 1 ∷ ends 1))
+    ∷ each (sufficing branching (pos 0)) (run 0 7 (line (pos 0) 1 ∷ line (pos 9) 1 ∷ ends 1))
     -- R4: after such a branch a cell of label 0 may not be written
-    ∷ (fact (startOf storing) (run 6 5 [])
-    ∷ fact (rowAfter storing) (words (pos 7 ∷ pos 1 ∷ pos 0 ∷ pos 0 ∷ pos 0 ∷ negsuc 0 ∷ negsuc 0 ∷ []))
-    ∷ [])
+    ∷ (each storing (run 6 5 [])
+    ++ (fact (rowAfter storing) (words (pos 7 ∷ pos 1 ∷ pos 0 ∷ pos 0 ∷ pos 0 ∷ negsuc 0 ∷ negsuc 0 ∷ [])) ∷ []))
     -- R5: after a return the place has the label that it had at the call
-    ∷ only
+    ∷ each
     (usual (Push (pos 1) ∷ Load ∷ Push (pos 8) ∷ Call ∷ Push (pos 8) ∷ Output ∷ Push (pos 10) ∷ Jump ∷ Bnz (pos 1) ∷ Ret ∷ []))
     (run 0 10 (line (pos 8) 0 ∷ ends 0))
-    -- R6: 2^63 − 1 plus 1 is −2^63 (`negsuc n` is −(n + 1))
-    ∷ only (usual (Push (pos 1) ∷ Push (pos (2 ^ 63 - 1)) ∷ Add ∷ Output ∷ [])) (run 0 4 (line (negsuc (2 ^ 63 - 1)) 0 ∷ ends 0))
+    -- R6: 2^63 − 1 plus 1 is stop 9 in every engine, once the rule is asked: the rule memory has Add's row
+    ∷ (overflows (pos 1) largest Add
+    ++ (fact
+    (rowAfter (usual (made (pos 1) largest Add)))
+    (words (pos 1 ∷ pos 0 ∷ pos 0 ∷ pos 0 ∷ negsuc 0 ∷ pos 0 ∷ pos 0 ∷ []))
+    ∷ []))
     -- R7, R8: the empty sheet with allowance 0 has ended; with allowance 0 no command is carried out
-    ∷ only (paid 0 []) (run 0 0 (ends 0))
-    ∷ only (paid 0 (Push (pos 1) ∷ [])) (run 1 0 [])
+    ∷ each (paid 0 []) (run 0 0 (ends 0))
+    ∷ each (paid 0 (Push (pos 1) ∷ [])) (run 1 0 [])
     -- R9, R10: no frame on top; an address outside the cells
-    ∷ only (usual (Ret ∷ [])) (run 4 0 [])
-    ∷ only (usual (Push (pos 2) ∷ Load ∷ [])) (run 5 1 [])
+    ∷ each (usual (Ret ∷ [])) (run 4 0 [])
+    ∷ each (usual (Push (pos 2) ∷ Load ∷ [])) (run 5 1 [])
     -- R11, R12: Add at place label 0 of two labels 1: the result's label is 1 and not 0
     ∷ only (from (pos 1 ∷ pos 0 ∷ pos 1 ∷ pos 1 ∷ negsuc 0 ∷ pos 0 ∷ pos 1 ∷ [])) (run 0 0 (ends 0))
     ∷ only (from (pos 1 ∷ pos 0 ∷ pos 1 ∷ pos 1 ∷ negsuc 0 ∷ pos 0 ∷ pos 0 ∷ [])) (refused 7 0)
@@ -204,21 +233,29 @@ others =
     -- R1's page where nothing is said of the reader: that for reader 0
     (fact (pageFor (jobR1 [])) (page (lineSeven ++ lineEnd)) ∷ [])
     -- 5 − 1: top − next
-    ∷ only (usual (Push (pos 1) ∷ Push (pos 5) ∷ Sub ∷ Output ∷ [])) (run 0 4 (line (pos 4) 0 ∷ ends 0))
+    ∷ makes (pos 1) (pos 5) Sub (pos 4)
+    -- both sides of both ends: 2^63 − 1 + 0, −2^63 − 0 and −1 − (2^63 − 1); −2^63 − 1, 0 − (−2^63) and −2^63 + −1
+    ∷ makes (pos 0) largest Add largest
+    ∷ makes (pos 0) least Sub least
+    ∷ makes largest (negsuc 0) Sub least
+    ∷ overflows (pos 1) least Sub
+    ∷ overflows least (pos 0) Sub
+    ∷ overflows (negsuc 0) least Add
+    -- a line before stop 9 stays, and no end line comes
+    ∷ each (usual (Push (pos 7) ∷ Output ∷ made (pos 1) largest Add)) (run 9 4 (line (pos 7) 0 ∷ []))
     -- a Store that is carried out: top is the address, next the number, and the cell has its label
-    ∷ (fact (startOf storingLoaded) (run 0 4 (ends 0))
-    ∷ fact (cellsAfter storingLoaded) (memory (atom (pos 5) 1 ∷ atom (pos 5) 1 ∷ []))
-    ∷ [])
+    ∷ (each storingLoaded (run 0 4 (ends 0))
+    ++ (fact (cellsAfter storingLoaded) (memory (atom (pos 5) 1 ∷ atom (pos 5) 1 ∷ [])) ∷ []))
     -- stop 2: a place outside; stop 3: Add does not reach past a frame
-    ∷ only (usual (Push (pos 9) ∷ Jump ∷ [])) (run 2 2 [])
-    ∷ only (usual (Push (pos 1) ∷ Push (pos 3) ∷ Call ∷ Add ∷ [])) (run 3 3 [])
+    ∷ each (usual (Push (pos 9) ∷ Jump ∷ [])) (run 2 2 [])
+    ∷ each (usual (Push (pos 1) ∷ Push (pos 3) ∷ Call ∷ Add ∷ [])) (run 3 3 [])
     -- 256 Pushes end; stop 7: the 257th
-    ∷ only (usual (replicate 256 (Push (pos 0)))) (run 0 256 (ends 0))
-    ∷ only (usual (replicate 257 (Push (pos 0)))) (run 7 256 [])
+    ∷ each (usual (replicate 256 (Push (pos 0)))) (run 0 256 (ends 0))
+    ∷ each (usual (replicate 257 (Push (pos 0)))) (run 7 256 [])
     -- stop 8: a second line, where one fits
-    ∷ only (narrow 1 1_000_000 (Push (pos 1) ∷ Output ∷ Push (pos 2) ∷ Output ∷ [])) (run 8 3 (line (pos 1) 0 ∷ []))
+    ∷ each (narrow 1 1_000_000 (Push (pos 1) ∷ Output ∷ Push (pos 2) ∷ Output ∷ [])) (run 8 3 (line (pos 1) 0 ∷ []))
     -- the end line needs no allowance, but space: else stop 8 after the last command, with allowance left and without
-    ∷ only (paid 1 (Push (pos 1) ∷ [])) (run 0 1 (ends 0))
-    ∷ only (narrow 1 1_000_000 (Push (pos 1) ∷ Output ∷ [])) (run 8 2 (line (pos 1) 0 ∷ []))
-    ∷ only (narrow 0 1 (Push (pos 1) ∷ [])) (run 8 1 [])
+    ∷ each (paid 1 (Push (pos 1) ∷ [])) (run 0 1 (ends 0))
+    ∷ each (narrow 1 1_000_000 (Push (pos 1) ∷ Output ∷ [])) (run 8 2 (line (pos 1) 0 ∷ []))
+    ∷ each (narrow 0 1 (Push (pos 1) ∷ [])) (run 8 1 [])
     ∷ []

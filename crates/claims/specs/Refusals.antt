@@ -1,5 +1,5 @@
 -- Demand 1 for every engine, of what their contracts say (`plain`, `tagged`): a start is refused by the first of document 01's checks that
--- applies, with its number and place, and then all that was lent is as it came; every other start is run to one of the nine stops within
+-- applies, with its number and place, and then all that was lent is as it came; every other start is run to one of the ten stops within
 -- its allowance. This file states it; proofs/Refusals.antt shows it.
 use Prim.Native.Nat.{ℕ, suc, _*_, _^_, _<_, _≤_, min}
 use mathlib.Core.Path.{_≡_}
@@ -123,10 +123,10 @@ pub record Demand (checks refused : Check) (stopped : Type 0) : Type 0 where
   pub always : (r : Refusal) → checks r → refused r
   pub otherwise : Nothing checks → stopped
 
--- one of the nine stops, within the allowance
+-- one of the ten stops, within the allowance
 abbrev pub StoppedBy : {R : Type 0} → ℕ → Ended R → Type 0
 StoppedBy {R} fuel x =
-    (ran : Ran) × (u : R) × (after : Memory) × (x ≡ ended (Answer.Stopped ran) u after) × (ran .stop ≤ 8) × (ran .steps ≤ fuel)
+    (ran : Ran) × (u : R) × (after : Memory) × (x ≡ ended (Answer.Stopped ran) u after) × (ran .stop ≤ 9) × (ran .steps ≤ fuel)
 
 abbrev pub TaggedDemand : List ℕ → Memory → ℕ → List ℕ → (row handler : List ℤ) → Left → Type 0
 TaggedDemand sheet m fuel bytes row handler x =

@@ -1,5 +1,5 @@
 -- The kernel of document 01: the commands of a fault handler (kernel instructions), and how they run over the seven words of the rule
--- memory (the row). They act as on sheets, without labels.
+-- memory (the row). They act as on sheets, without labels, but that sums and differences wrap.
 use Prim.Native.Nat.{ℕ, zero, suc}
 use mathlib.Core.Bool.{Bool, true, false}
 use mathlib.Core.List.{List, [], _∷_}

@@ -4,18 +4,19 @@ use mathlib.Core.Path.{_≡_, refl}
 use mathlib.Core.Bool.{Bool, true, false}
 use mathlib.Core.List.{List, _∷_}
 use Prim.Native.Nat.{ℕ}
-use lib.IntN.{ℤ}
+use lib.IntN.{ℤ, _+ℤ_, _-ℤ_}
 use lib.ListN.{length}
 use lib.Dec.{leb, ltb}
+use Rattle.word.specs.Exact.{isSigned}
 use Rattle.label.specs.Label.{InRange}
 use Rattle.program.specs.declared.Command.{Command}
 use Rattle.program.specs.declared.Command.the-variants.{Add, Sub, Pop, Output, Push, Load, Store, Jump, Bnz, Call, Ret}
 use Rattle.program.specs.Command.{supplies}
 use Rattle.machine.specs.Atom.{Atom, Entry, value, frame}
 use Rattle.machine.specs.Rule.{Input, present, missing, Key}
-use Rattle.machine.specs.State.{State, stackFull, outputFull}
+use Rattle.machine.specs.State.{State, overflow, stackFull, outputFull}
 use Rattle.machine.specs.Stopped.{denies}
-use Rattle.machine.specs.Step.{Outcome, stopped, stepped, Request, halt, ask, request, keyOf}
+use Rattle.machine.specs.Step.{Outcome, stopped, stepped, Request, halt, ask, of, making, request, keyOf}
 use Rattle.machine.specs.Step.{stackLimit, withValue, withValues, withFrame, withCell}
 use Rattle.machine.specs.Holds.{Each, AtomHas, EntryHas, LabelsInRange, InputHas, KeyHas, Marked, WellMarked}
 use Rattle.machine.proofs.Request.{value-all, values-all, frame-all, cell-all, provided-all}
@@ -37,7 +38,7 @@ marked-has {k} m =
       input3 = marked-range (leb 3 n) (k .input3) (m .input3);
     }
 
--- an effect is carried out, or is stopped for want of room
+-- an effect is carried out, or is stopped for want of 64 bits or of room
 abbrev pub Roomy : Outcome → Type 0
 Roomy (stopped x) = denies x ≡ false
 Roomy (stepped t) = Unit
@@ -78,10 +79,19 @@ module _ (room : ℕ) (s : State) (h : LabelsInRange s) where
   abbrev p : InRange (s .pc .label)
   p = h .pc .1
 
+  making-asks : (c : Command) (make : ℤ → ℤ → ℤ)
+      → ((a b : Atom) → InRange (a .label) → InRange (b .label) → WellMarked (keyOf c s (of a) (of b) missing))
+      → Asks c s (making s make)
+  making-asks c make marked =
+      values-asks s h c _ (λ a b rest ha hb. (
+        marked a b ha hb,
+        λ q r. provided-all Roomy (isSigned 64 (make (a .number) (b .number))) overflow _ (λ e. tt) (λ e. refl),
+      ))
+
   pub request-asks : (c : Command) → Asks c s (request room c s)
   unfolding request
-  request-asks Add = values-asks s h Add _ (λ a b rest ha hb. (record { pc = p; input1 = ha; input2 = hb; input3 = tt }, λ q r. tt))
-  request-asks Sub = values-asks s h Sub _ (λ a b rest ha hb. (record { pc = p; input1 = ha; input2 = hb; input3 = tt }, λ q r. tt))
+  request-asks Add = making-asks Add _+ℤ_ (λ a b ha hb. record { pc = p; input1 = ha; input2 = hb; input3 = tt })
+  request-asks Sub = making-asks Sub _-ℤ_ (λ a b ha hb. record { pc = p; input1 = ha; input2 = hb; input3 = tt })
   request-asks Pop = value-asks s h Pop _ (λ a rest ha. (record { pc = p; input1 = ha; input2 = tt; input3 = tt }, λ q r. tt))
   request-asks Output =
       value-asks s h Output _ (λ a rest ha. (

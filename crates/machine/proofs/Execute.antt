@@ -5,18 +5,21 @@ use mathlib.Core.Bool.{false}
 use mathlib.Core.List.{List, [], _∷_, _++_, append-nil}
 use Prim.Native.Nat.{ℕ, suc, _≤_, _<_}
 use native.Mathlib.Omega.{arith}
+use lib.IntN.{ℤ}
 use lib.ListN.{length, length-append, length-set}
 use lib.Dec.{ltb}
 use borrow.Author.Tests.{ltb-true, ltb-false}
+use Rattle.word.specs.Exact.{isSigned}
+use Rattle.word.proofs.Laws.Exact.{test-unsigned}
 use Rattle.program.specs.declared.Command.{Command}
 use Rattle.program.specs.declared.Command.the-variants.{Add, Sub, Pop, Output, Push, Load, Store, Jump, Bnz, Call, Ret}
 use Rattle.program.specs.Command.{opcode, push, output}
 use Rattle.machine.specs.Atom.{Atom, Entry, Line}
 use Rattle.machine.specs.Rule.{Verdict, denied, allowed, Policy}
-use Rattle.machine.specs.State.{State, Stop, valueMissing, frameMissing, addressOutside, denial, stackFull, outputFull}
+use Rattle.machine.specs.State.{State, Stop, valueMissing, frameMissing, addressOutside, denial, overflow, stackFull, outputFull}
 use Rattle.machine.specs.Step.{Outcome, stopped, stepped, Request, halt, ask, stackLimit, provided, printing, keyOf, decide}
-use Rattle.machine.specs.Step.{consult, request, execute}
-use Rattle.machine.specs.Stopped.{Denied}
+use Rattle.machine.specs.Step.{consult, making, request, execute}
+use Rattle.machine.specs.Stopped.{Denied, Makes, sum, difference, Overflows}
 use Rattle.machine.specs.End.{hasEnd}
 use Rattle.machine.proofs.Request.{value-all, values-all, frame-all, cell-all, provided-all}
 
@@ -34,6 +37,7 @@ pub data Cause (π : Policy) (room : ℕ) (c : Command) (s : State) : Stop → T
   no-frame : request room c s ≡ halt frameMissing → Cause π room c s frameMissing
   no-cell : request room c s ≡ halt addressOutside → Cause π room c s addressOutside
   no-leave : Denied π c s (request room c s) → Cause π room c s denial
+  no-number : Overflows c s → Cause π room c s overflow
   no-room : opcode c ≡ push → stackLimit ≤ length (s .stack) → Cause π room c s stackFull
   no-line : opcode c ≡ output → room ≤ length (s .lines) → Cause π room c s outputFull
 
@@ -76,12 +80,19 @@ line-fit π room s p rest line number h =
     record { steps = refl; lines = (line ∷ [], refl); numbers = number; fits = λ f. fits; memory = refl; depth = h })
     (λ g. no-line refl (ltb-false _ _ g))
 
+-- the number that is made of two values has 64 bits, or it is stop 9
+making-fit : (π : Policy) (room : ℕ) (c : Command) (s : State) (make : ℤ → ℤ → ℤ) → Makes c make → Fit π room c s (making s make)
+making-fit π room c s make makes =
+    values-all (Fit π room c s) (s .stack) _ no-value (λ a b rest e p r.
+    let n : ℤ = make (a .number) (b .number) in
+    provided-all (Sound π room c s) (isSigned 64 n) _ _
+    (λ g. plain room s _ _ (rw e (omega arith)))
+    (λ g. no-number (record { make = make; makes = makes; top = a; next = b; rest = rest; found = e }, test-unsigned 64 n g)))
+
 request-fit : (π : Policy) (room : ℕ) (c : Command) (s : State) → Fit π room c s (request room c s)
 unfolding request
-request-fit π room Add s =
-    values-all (Fit π room Add s) (s .stack) _ no-value (λ a b rest e p r. plain room s _ _ (rw e (omega arith)))
-request-fit π room Sub s =
-    values-all (Fit π room Sub s) (s .stack) _ no-value (λ a b rest e p r. plain room s _ _ (rw e (omega arith)))
+request-fit π room Add s = making-fit π room Add s _ sum
+request-fit π room Sub s = making-fit π room Sub s _ difference
 request-fit π room Pop s =
     value-all (Fit π room Pop s) (s .stack) _ no-value (λ a rest e p r. plain room s _ _ (rw e (omega arith)))
 request-fit π room Output s =

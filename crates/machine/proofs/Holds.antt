@@ -9,8 +9,9 @@ use native.Mathlib.Omega.{arith}
 use lib.IntN.{ℤ, pos, negsuc, _+ℤ_}
 use lib.ListN.{length, set}
 use lib.Dec.{ltb}
-use Rattle.word.specs.Wrap.{Signed, wrap, addWrap, subWrap}
-use Rattle.word.proofs.Laws.Wrap.{wrap-signed}
+use Rattle.word.specs.Wrap.{Signed}
+use Rattle.word.specs.Exact.{isSigned}
+use Rattle.word.proofs.Laws.Exact.{test-signed}
 use Rattle.word.proofs.Bool.{never}
 use Rattle.label.specs.Label.{InRange, bottom}
 use Rattle.label.proofs.Laws.{join-range}
@@ -20,12 +21,13 @@ use Rattle.program.specs.Command.{Opcode, add, sub, pop, output, push, load, st
 use Rattle.machine.specs.Atom.{Atom, Entry, value, frame, Line, numberLine, endLine}
 use Rattle.machine.specs.Rule.{Input, present, missing, Verdict, denied, allowed, Policy, Ruler, rules, standard}
 use Rattle.machine.specs.Rule.{labelOf, allowedIf, rule}
-use Rattle.machine.specs.State.{State, stackFull, outputFull}
+use Rattle.machine.specs.State.{State, overflow, stackFull, outputFull}
 use Rattle.machine.specs.Step.{Request, halt, ask, stackLimit, withValue, withValues, withFrame, withCell, atom}
-use Rattle.machine.specs.Step.{branch, keyOf, decide, consult, request, execute}
+use Rattle.machine.specs.Step.{branch, keyOf, decide, consult, making, request, execute}
 use Rattle.machine.specs.Run.{step, closed, run}
-use Rattle.machine.specs.Stopped.{CommandAt}
+use Rattle.machine.specs.Stopped.{CommandAt, Makes, sum, difference, Made, number}
 use Rattle.machine.specs.Holds.{Each, AtomHas, EntryHas, LineHas, Holds, LabelsInRange, NumbersSigned, InputHas, Answers, ProgramHas}
+use Rattle.machine.specs.Exact.{Brings}
 use Rattle.machine.proofs.Request.{At, here, there, value-all, values-all, frame-all, cell-all, provided-all}
 use Rattle.machine.proofs.Step.{Gives, gives-stepped, step-all, run-keeps}
 
@@ -92,60 +94,71 @@ module _ (N : ℤ → Type 0) (L : ℕ → Type 0) (s : State) (h : Holds N L s)
   branch-has (pos (suc m)) n f g = g
   branch-has (negsuc m) n f g = g
 
-  module _ (wraps : (z : ℤ) → N (wrap z)) (cs : List Command) (has : ProgramHas N cs) (on : N (s .pc .number +ℤ pos 1)) where
-    request-keeps : (room : ℕ) (c : Command) → CommandAt cs (s .pc .number) c → Keeps (request room c s)
-    unfolding request addWrap subWrap
-    request-keeps room Add at =
-        values-keeps _ (λ a b rest ha hb hs. (ha .1, hb .1, tt, λ p r hp hr. moved (on, hp) ((wraps _, hr), hs)))
-    request-keeps room Sub at =
-        values-keeps _ (λ a b rest ha hb hs. (ha .1, hb .1, tt, λ p r hp hr. moved (on, hp) ((wraps _, hr), hs)))
-    request-keeps room Pop at = value-keeps _ (λ a rest ha hs. (ha .1, tt, tt, λ p r hp hr. moved (on, hp) hs))
-    request-keeps room Output at =
-        value-keeps _ (λ a rest ha hs. (
-          ha .1,
-          tt,
-          tt,
-          λ p r hp hr.
-              let written : Each (LineHas N L) (s .lines ++ (numberLine (a .number) r ∷ [])) =
-              each-snoc (LineHas N L) (s .lines) _ (h .lines) (ha .0, hr) in
-              provided-all (Gives (Holds N L)) (ltb (length (s .lines)) room) outputFull _
-              (λ e. record { pc = (on, hp); stack = hs; memory = h .memory; lines = written })
-              (λ e. tt),
-        ))
-    request-keeps room (Push n) at = (
-      tt,
-      tt,
-      tt,
-      λ p r hp hr.
-          provided-all (Gives (Holds N L)) (ltb (length (s .stack)) stackLimit) stackFull _
-          (λ e. moved (on, hp) ((has .pushed (s .pc .number) n at, hr), h .stack))
-          (λ e. tt),
-    )
-    request-keeps room Load at =
-        value-keeps _ (λ a rest ha hs. cell-keeps (a .number) _ (λ i c hc.
-        (ha .1, hc .1, tt, λ p r hp hr. moved (on, hp) ((hc .0, hr), hs))))
-    request-keeps room Store at =
-        values-keeps _ (λ a b rest ha hb hs. cell-keeps (a .number) _ (λ i c hc. (
-          ha .1,
-          hb .1,
-          hc .1,
-          λ p r hp hr.
-              let stored : Each (AtomHas N L) (set (s .memory) i (atom (b .number) r)) =
-              each-set (AtomHas N L) (s .memory) i _ (hb .0, hr) (h .memory) in
-              record { pc = (on, hp); stack = hs; memory = stored; lines = h .lines },
-        )))
-    request-keeps room Jump at = value-keeps _ (λ a rest ha hs. (ha .1, tt, tt, λ p r hp hr. moved (ha .0, hp) hs))
-    request-keeps room (Bnz n) at =
-        value-keeps _ (λ a rest ha hs. (
-          ha .1,
-          tt,
-          tt,
-          λ p r hp hr.
-              moved (branch-has (a .number) n on (has .branched (s .pc .number) n at), hp) hs,
-        ))
-    request-keeps room Call at =
-        values-keeps _ (λ a b rest ha hb hs. (ha .1, tt, tt, λ p r hp hr. moved (ha .0, hp) (hb, ((on, hr), hs))))
-    request-keeps room Ret at = frame-keeps _ (λ a rest ha hs. (ha .1, tt, tt, λ p r hp hr. moved (ha .0, hp) hs))
+  making-keeps : (c : Command) (make : ℤ → ℤ → ℤ) → Makes c make → Brings N c s → Keeps (making s make)
+  making-keeps c make makes new =
+      values-all Keeps (s .stack) _ tt (λ x y rest e.
+      let g : Each (EntryHas N L) (value x ∷ value y ∷ rest) = rw e at (h .stack) in
+      let m : Made c s = record { make = make; makes = makes; top = x; next = y; rest = rest; found = e } in (
+        g .0 .1,
+        g .1 .0 .1,
+        tt,
+        λ p r hp hr.
+            provided-all (Gives (Holds N L)) (isSigned 64 (number m)) overflow _
+            (λ t. moved (new .following, hp) ((new .made m (test-signed 64 (number m) t), hr), g .1 .1))
+            (λ t. tt),
+      ))
+
+  request-keeps : (room : ℕ) (c : Command) → Brings N c s → Keeps (request room c s)
+  unfolding request
+  request-keeps room Add new = making-keeps Add _ sum new
+  request-keeps room Sub new = making-keeps Sub _ difference new
+  request-keeps room Pop new = value-keeps _ (λ a rest ha hs. (ha .1, tt, tt, λ p r hp hr. moved (new .following, hp) hs))
+  request-keeps room Output new =
+      value-keeps _ (λ a rest ha hs. (
+        ha .1,
+        tt,
+        tt,
+        λ p r hp hr.
+            let written : Each (LineHas N L) (s .lines ++ (numberLine (a .number) r ∷ [])) =
+            each-snoc (LineHas N L) (s .lines) _ (h .lines) (ha .0, hr) in
+            provided-all (Gives (Holds N L)) (ltb (length (s .lines)) room) outputFull _
+            (λ e. record { pc = (new .following, hp); stack = hs; memory = h .memory; lines = written })
+            (λ e. tt),
+      ))
+  request-keeps room (Push n) new = (
+    tt,
+    tt,
+    tt,
+    λ p r hp hr.
+        provided-all (Gives (Holds N L)) (ltb (length (s .stack)) stackLimit) stackFull _
+        (λ e. moved (new .following, hp) ((new .pushed n refl, hr), h .stack))
+        (λ e. tt),
+  )
+  request-keeps room Load new =
+      value-keeps _ (λ a rest ha hs. cell-keeps (a .number) _ (λ i c hc.
+      (ha .1, hc .1, tt, λ p r hp hr. moved (new .following, hp) ((hc .0, hr), hs))))
+  request-keeps room Store new =
+      values-keeps _ (λ a b rest ha hb hs. cell-keeps (a .number) _ (λ i c hc. (
+        ha .1,
+        hb .1,
+        hc .1,
+        λ p r hp hr.
+            let stored : Each (AtomHas N L) (set (s .memory) i (atom (b .number) r)) =
+            each-set (AtomHas N L) (s .memory) i _ (hb .0, hr) (h .memory) in
+            record { pc = (new .following, hp); stack = hs; memory = stored; lines = h .lines },
+      )))
+  request-keeps room Jump new = value-keeps _ (λ a rest ha hs. (ha .1, tt, tt, λ p r hp hr. moved (ha .0, hp) hs))
+  request-keeps room (Bnz n) new =
+      value-keeps _ (λ a rest ha hs. (
+        ha .1,
+        tt,
+        tt,
+        λ p r hp hr.
+            moved (branch-has (a .number) n (new .following) (new .branched n refl), hp) hs,
+      ))
+  request-keeps room Call new =
+      values-keeps _ (λ a b rest ha hb hs. (ha .1, tt, tt, λ p r hp hr. moved (ha .0, hp) (hb, ((new .following, hr), hs))))
+  request-keeps room Ret new = frame-keeps _ (λ a rest ha hs. (ha .1, tt, tt, λ p r hp hr. moved (ha .0, hp) hs))
 
 -- the end line has the number 0 and the place label
 closed-holds : (N : ℤ → Type 0) (L : ℕ → Type 0) → N (pos 0) → (s : State) → Holds N L s → Holds N L (closed s)
@@ -157,7 +170,7 @@ closed-holds N L nought s h =
       lines = each-snoc (LineHas N L) (s .lines) (endLine (s .pc .label)) (h .lines) (nought, h .pc .1);
     }
 
-module _ (N : ℤ → Type 0) (L : ℕ → Type 0) (wraps : (z : ℤ) → N (wrap z)) (cs : List Command) (has : ProgramHas N cs) where
+module _ (N : ℤ → Type 0) (L : ℕ → Type 0) (cs : List Command) where
   module _ (π : Policy) (answers : Answers L π) where
     consult-holds : (c : Command) (s : State) (h : Holds N L s) (q : Request)
         → Keeps N L s h q → Gives (Holds N L) (consult π c s q)
@@ -170,22 +183,33 @@ module _ (N : ℤ → Type 0) (L : ℕ → Type 0) (wraps : (z : ℤ) → N (wra
             let (hp, hr) = answers (keyOf c s l1 l2 l3) p r (record { pc = h .pc .1; input1 = h1; input2 = h2; input3 = h3 }) e in
             g p r hp hr
 
-    pub step-holds : (room : ℕ) (s : State) → Holds N L s → Gives (Holds N L) (step π room cs s)
+    pub step-holds : (room : ℕ) (s : State) → ((c : Command) → CommandAt cs (s .pc .number) c → Brings N c s) → Holds N L s
+        → Gives (Holds N L) (step π room cs s)
     unfolding execute
-    step-holds room s h =
+    step-holds room s brings h =
         step-all π room s (Gives (Holds N L)) cs
-        (λ c at.
-        let on : N (s .pc .number +ℤ pos 1) = has .following (s .pc .number) c at in
-        consult-holds c s h (request room c s) (request-keeps N L s h wraps cs has on room c at))
+        (λ c at. consult-holds c s h (request room c s) (request-keeps N L s h room c (brings c at)))
         (λ e. tt)
 
-  -- of a ruler that answers with such labels in every state
-  pub run-holds : {R : Type 0} (ρ : Ruler R) → N (pos 0) → ((u : R) → Answers L (rules ρ u)) → (room fuel : ℕ) (s : State) (u : R)
-      → Holds N L s → Holds N L (run ρ room cs fuel s u .state)
-  run-holds ρ nought answers room fuel s u h =
-      run-keeps ρ room cs (Holds N L)
-      (λ s t u at e g. gives-stepped (Holds N L) e (step-holds (rules ρ u) (answers u) room s g))
-      (λ s at f g. closed-holds N L nought s g) fuel s u h
+  -- where a program has such numbers, and what its commands make of two such numbers is such a one
+  module _ (has : ProgramHas N cs) (made : (c : Command) (s : State) → Holds N L s → (m : Made c s) → Signed 64 (number m) → N (number m))
+    where
+      brings-at : (s : State) → Holds N L s → (c : Command) → CommandAt cs (s .pc .number) c → Brings N c s
+      brings-at s h c at =
+          record {
+            pushed = λ n e. has .pushed (s .pc .number) n (rw e at at);
+            branched = λ n e. has .branched (s .pc .number) n (rw e at at);
+            following = has .following (s .pc .number) c at;
+            made = made c s h;
+          }
+
+      -- of a ruler that answers with such labels in every state
+      pub run-holds : {R : Type 0} (ρ : Ruler R) → N (pos 0) → ((u : R) → Answers L (rules ρ u)) → (room fuel : ℕ) (s : State) (u : R)
+          → Holds N L s → Holds N L (run ρ room cs fuel s u .state)
+      run-holds ρ nought answers room fuel s u h =
+          run-keeps ρ room cs (Holds N L)
+          (λ s t u at e g. gives-stepped (Holds N L) e (step-holds (rules ρ u) (answers u) room s (brings-at s g) g))
+          (λ s at f g. closed-holds N L nought s g) fuel s u h
 
 -- ════════════════════════════════════════════════════════════════════════════════════════════
 -- Labels in range
@@ -195,13 +219,17 @@ module _ (N : ℤ → Type 0) (L : ℕ → Type 0) (wraps : (z : ℤ) → N (wra
 anything : (cs : List Command) → ProgramHas (λ n. Unit) cs
 anything cs = record { pushed = λ z n e. tt; branched = λ z n e. tt; following = λ z c e. tt }
 
+brings-anything : (c : Command) (s : State) → Brings (λ n. Unit) c s
+brings-anything c s = record { pushed = λ n e. tt; branched = λ n e. tt; following = tt; made = λ m g. tt }
+
 pub step-range : (π : Policy) → Answers InRange π → (room : ℕ) (cs : List Command) (s : State) → LabelsInRange s
     → Gives LabelsInRange (step π room cs s)
-step-range π answers room cs s h = step-holds (λ n. Unit) InRange (λ z. tt) cs (anything cs) π answers room s h
+step-range π answers room cs s h = step-holds (λ n. Unit) InRange cs π answers room s (λ c at. brings-anything c s) h
 
 pub run-range : {R : Type 0} (ρ : Ruler R) → ((u : R) → Answers InRange (rules ρ u)) → (room : ℕ) (cs : List Command) (fuel : ℕ)
     (s : State) (u : R) → LabelsInRange s → LabelsInRange (run ρ room cs fuel s u .state)
-run-range ρ answers room cs fuel s u h = run-holds (λ n. Unit) InRange (λ z. tt) cs (anything cs) ρ tt answers room fuel s u h
+run-range ρ answers room cs fuel s u h =
+    run-holds (λ n. Unit) InRange cs (anything cs) (λ c s h m g. tt) ρ tt answers room fuel s u h
 
 -- the standard policy's answers are in range
 abbrev InRangeVerdict : Verdict → Type 0
@@ -276,7 +304,8 @@ program-signed cs h pushed branched =
     goes (pos i) c n at g = let l : i < length cs = place-lt cs i c at in sum-signed i n (omega arith) g
     goes (negsuc i) c n at g = never (cc)
 
+-- Add and Sub leave such numbers only, by their test
 pub run-numbers : {R : Type 0} (ρ : Ruler R) (room : ℕ) (cs : List Command) → ProgramHas (Signed 64) cs
     → (fuel : ℕ) (s : State) (u : R) → NumbersSigned s → NumbersSigned (run ρ room cs fuel s u .state)
 run-numbers ρ room cs has fuel s u h =
-    run-holds (Signed 64) (λ l. Unit) wrap-signed cs has ρ (omega arith) (λ u k p r g e. (tt, tt)) room fuel s u h
+    run-holds (Signed 64) (λ l. Unit) cs has (λ c s h m g. g) ρ (omega arith) (λ u k p r g e. (tt, tt)) room fuel s u h

@@ -5,6 +5,7 @@ pub mod Step
 pub mod Run
 pub mod Alike
 pub mod Holds
+pub mod Exact
 pub mod Asked
 pub mod Privacy
 pub mod End

@@ -19,7 +19,7 @@ use Rattle.machine.specs.Step.{Outcome, stopped, stepped, stackLimit, ex
 use Rattle.machine.specs.Run.{atEnd, step, asked, Result, result, closed, finish, run, along, spent, continue}
 use Rattle.machine.specs.Stopped.{Counted, CommandAt, NoCommandAt, Stopped}
 use Rattle.machine.proofs.Step.{step-all, run-induction, run-keeps}
-use Rattle.machine.proofs.Execute.{Change, Cause, no-value, no-frame, no-cell, no-leave, no-room, no-line}
+use Rattle.machine.proofs.Execute.{Change, Cause, no-value, no-frame, no-cell, no-leave, no-number, no-room, no-line}
 use Rattle.machine.proofs.Execute.{Sound, execute-sound}
 
 -- ════════════════════════════════════════════════════════════════════════════════════════════
@@ -58,6 +58,7 @@ module _ (π : Policy) (room : ℕ) (cs : List Command) where
   halt-number (inside c at (no-frame h)) = omega arith
   halt-number (inside c at (no-cell h)) = omega arith
   halt-number (inside c at (no-leave h)) = omega arith
+  halt-number (inside c at (no-number h)) = omega arith
   halt-number (inside c at (no-room h g)) = omega arith
   halt-number (inside c at (no-line h g)) = omega arith
 
@@ -74,6 +75,7 @@ module _ (π : Policy) (room : ℕ) (cs : List Command) where
   halt-stopped e (inside c at (no-frame h)) = (c, at, h)
   halt-stopped e (inside c at (no-cell h)) = (c, at, h)
   halt-stopped e (inside c at (no-leave h)) = (c, at, h)
+  halt-stopped e (inside c at (no-number h)) = (c, at, h)
   halt-stopped e (inside c at (no-room h g)) = (c, at, (h, g))
   halt-stopped e (inside c at (no-line h g)) = (inl (c, at, h), g)
 

@@ -5,5 +5,6 @@ pub mod Step
 pub mod Run
 pub mod Stopped
 pub mod Holds
+pub mod Exact
 pub mod Claim
 pub mod End

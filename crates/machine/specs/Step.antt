@@ -2,16 +2,17 @@
 use Prim.Native.Nat.{ℕ, zero, suc, _+_}
 use mathlib.Core.Bool.{Bool, true, false}
 use mathlib.Core.List.{List, [], _∷_, _++_}
-use lib.IntN.{ℤ, pos, negsuc, _+ℤ_}
+use lib.IntN.{ℤ, pos, negsuc, _+ℤ_, _-ℤ_}
 use lib.ListN.{length, set}
 use lib.Dec.{ltb}
-use Rattle.word.specs.Wrap.{addWrap, subWrap}
+use Rattle.word.specs.Exact.{isSigned}
 use Rattle.program.specs.declared.Command.{Command}
 use Rattle.program.specs.declared.Command.the-variants.{Add, Sub, Pop, Output, Push, Load, Store, Jump, Bnz, Call, Ret}
 use Rattle.program.specs.Command.{opcode}
 use Rattle.machine.specs.Atom.{Atom, Entry, value, frame, Line, numberLine}
 use Rattle.machine.specs.Rule.{Input, present, missing, Key, Verdict, denied, allowed, Policy}
-use Rattle.machine.specs.State.{State, Stop, valueMissing, frameMissing, addressOutside, denial, stackFull, outputFull}
+use Rattle.machine.specs.State.{State, Stop, valueMissing, frameMissing, addressOutside, denial, overflow, stackFull}
+use Rattle.machine.specs.State.{outputFull}
 
 -- the largest number of stack entries
 abbrev pub stackLimit : ℕ
@@ -58,7 +59,7 @@ abbrev pub withCell : List Atom → ℤ → (ℕ → Atom → Request) → Reque
 withCell cells (pos i) k = withElement cells i (k i)
 withCell cells (negsuc i) k = halt addressOutside
 
--- room on the stack, room for a line
+-- a number of 64 bits, room on the stack, room for a line
 abbrev pub provided : Bool → Stop → Outcome → Outcome
 provided true s o = o
 provided false s o = stopped s
@@ -115,14 +116,18 @@ branch (negsuc n) place operand = place +ℤ operand
 abbrev pub of : Atom → Input
 of a = present (a .label)
 
+-- Add and Sub: the whole number that is made of top and next, where it is a signed number of 64 bits
+abbrev pub making : State → (ℤ → ℤ → ℤ) → Request
+making s make =
+    withValues (s .stack) (λ a b rest.
+    ask (of a) (of b) missing (λ p r.
+    provided (isSigned 64 (make (a .number) (b .number))) overflow
+    (next s p (value (atom (make (a .number) (b .number)) r) ∷ rest))))
+
 -- what each command comes to; `room` is how many lines fit
 unfoldable pub request : ℕ → Command → State → Request
-request room Add s =
-    withValues (s .stack) (λ a b rest.
-    ask (of a) (of b) missing (λ p r. next s p (value (atom (addWrap (a .number) (b .number)) r) ∷ rest)))
-request room Sub s =
-    withValues (s .stack) (λ a b rest.
-    ask (of a) (of b) missing (λ p r. next s p (value (atom (subWrap (a .number) (b .number)) r) ∷ rest)))
+request room Add s = making s _+ℤ_
+request room Sub s = making s _-ℤ_
 request room Pop s =
     withValue (s .stack) (λ a rest.
     ask (of a) missing missing (λ p r. next s p rest))

@@ -6,15 +6,17 @@ use mathlib.Core.Logic.{_⊎_}
 use mathlib.Core.Bool.{Bool}
 use mathlib.Core.Option.{none, some}
 use mathlib.Core.List.{List, [], _∷_, _++_}
-use lib.IntN.{ℤ, pos}
+use lib.IntN.{ℤ, pos, _+ℤ_, _-ℤ_}
 use lib.ListN.{length}
 use lib.Dec.{eqb}
+use Rattle.word.specs.Wrap.{Signed}
 use Rattle.program.specs.declared.Command.{Command}
+use Rattle.program.specs.declared.Command.the-variants.{Add, Sub}
 use Rattle.program.specs.Command.{opcode, push, output}
-use Rattle.machine.specs.Atom.{Line, endLine}
+use Rattle.machine.specs.Atom.{Atom, Entry, value, Line, endLine}
 use Rattle.machine.specs.Rule.{Policy, denied}
 use Rattle.machine.specs.State.{State, Stop, end, fuelSpent, pcOutside, valueMissing, frameMissing}
-use Rattle.machine.specs.State.{addressOutside, denial, stackFull, outputFull, stopNumber}
+use Rattle.machine.specs.State.{addressOutside, denial, overflow, stackFull, outputFull, stopNumber}
 use Rattle.machine.specs.Step.{Request, halt, ask, request, keyOf, stackLimit}
 use Rattle.machine.specs.Run.{commandAt, Result}
 
@@ -48,6 +50,26 @@ AtTheEnd cs s = s .pc .number ≡ pos (length cs)
 abbrev pub LastLine : State → Line → Type 0
 LastLine s l = (before : List Line) × (s .lines ≡ before ++ (l ∷ []))
 
+-- the commands that make a number of two, and the whole number that each makes of top and next
+pub data Makes : Command → (ℤ → ℤ → ℤ) → Type 0 where
+  sum : Makes Add _+ℤ_
+  difference : Makes Sub _-ℤ_
+
+-- two values on top, and the number that the command makes of them; that this has no 64 bits
+pub record Made (c : Command) (s : State) : Type 0 where
+  pub make : ℤ → ℤ → ℤ
+  pub makes : Makes c make
+  pub top : Atom
+  pub next : Atom
+  pub rest : List Entry
+  pub found : s .stack ≡ value top ∷ value next ∷ rest
+
+abbrev pub number : {c : Command} {s : State} → Made c s → ℤ
+number m = m .make (m .top .number) (m .next .number)
+
+abbrev pub Overflows : Command → State → Type 0
+Overflows c s = (m : Made c s) × (Signed 64 (number m) → ⊥)
+
 -- the state s, in which the run stopped, for each stop
 abbrev pub Stopped : Policy → ℕ → List Command → State → Stop → Type 0
 Stopped π room cs s end = AtTheEnd cs s × LastLine s (endLine (s .pc .label))
@@ -57,6 +79,7 @@ Stopped π room cs s valueMissing = Here cs s (λ c. request room c s ≡ halt v
 Stopped π room cs s frameMissing = Here cs s (λ c. request room c s ≡ halt frameMissing)
 Stopped π room cs s addressOutside = Here cs s (λ c. request room c s ≡ halt addressOutside)
 Stopped π room cs s denial = Here cs s (λ c. Denied π c s (request room c s))
+Stopped π room cs s overflow = Here cs s (λ c. Overflows c s)
 Stopped π room cs s stackFull = Here cs s (λ c. (opcode c ≡ push) × (stackLimit ≤ length (s .stack)))
 Stopped π room cs s outputFull = (Here cs s (λ c. opcode c ≡ output) ⊎ AtTheEnd cs s) × (room ≤ length (s .lines))
 

@@ -13,4 +13,5 @@ fn main() {
     stops::places();
     stops::entries();
     stops::full();
+    stops::sums();
 }

@@ -28,7 +28,7 @@ pub(crate) fn labelled() {
     );
 }
 
-// R6 adds 1 and 2^63 - 1.
+// R6 adds 1 and 2^63 - 1: stop 9.
 pub(crate) fn others() {
     on_two(
         b"R6: ",

@@ -1,4 +1,4 @@
-// Every stop from 0 to 8.
+// Every stop from 0 to 9.
 use crate::trial::on_two;
 
 // Stops 0 to 2: the allowance and the place.
@@ -65,4 +65,38 @@ pub(crate) fn full() {
     let three = b"\x05\x01\0\0\0\0\0\0\0\x04\x05\x02\0\0\0\0\0\0\0\x04\x05\x03\0\0\0\0\0\0\0\x04";
     on_two(b"stop 8, no space for the end line: ", three, 5, 1000);
     on_two(b"stop 8, and the allowance is spent: ", three, 5, 6);
+}
+
+// Stop 9: sums and differences at both ends of 64 bits; R6 is one more.
+pub(crate) fn sums() {
+    on_two(
+        b"2^63 - 1 plus 0: ",
+        b"\x05\0\0\0\0\0\0\0\0\x05\xff\xff\xff\xff\xff\xff\xff\x7f\x01\x04",
+        5,
+        1000,
+    );
+    on_two(
+        b"-2^63 less 0: ",
+        b"\x05\0\0\0\0\0\0\0\0\x05\0\0\0\0\0\0\0\x80\x02\x04",
+        5,
+        1000,
+    );
+    on_two(
+        b"stop 9, -2^63 less 1: ",
+        b"\x05\x01\0\0\0\0\0\0\0\x05\0\0\0\0\0\0\0\x80\x02\x04",
+        5,
+        1000,
+    );
+    on_two(
+        b"stop 9, 0 less -2^63: ",
+        b"\x05\0\0\0\0\0\0\0\x80\x05\0\0\0\0\0\0\0\0\x02\x04",
+        5,
+        1000,
+    );
+    on_two(
+        b"stop 9, -2^63 plus -1: ",
+        b"\x05\xff\xff\xff\xff\xff\xff\xff\xff\x05\0\0\0\0\0\0\0\x80\x01\x04",
+        5,
+        1000,
+    );
 }

@@ -1,11 +1,14 @@
 -- What a command does on lent words, with the new place label p and the result label r of a ruling.
 use Prim.Native.Nat.{ℕ}
 use mathlib.Core.List.{List}
-use lib.IntN.{ℤ, pos}
+use lib.IntN.{ℤ, pos, _+ℤ_, _-ℤ_}
 use lib.Dec.{ltb, eqb}
 use Rattle.word.specs.Choose.{choose}
 use Rattle.word.specs.Number.{isZero}
-use Rattle.word.specs.Wrap.{addWrap, subWrap}
+use Rattle.word.specs.Wrap.{addWrap}
+use Rattle.word.specs.declared.exact.Exact.{Exact}
+use Rattle.word.specs.declared.exact.Exact.the-variants as Exact
+use Rattle.word.specs.Exact.{exactly}
 use Rattle.stack.specs.declared.Machine.{Machine}
 use Rattle.stack.specs.declared.Stepped.{Stepped}
 use Rattle.stack.specs.Words.{pushed, pushedStack, refilledStack, dropped, gone, following, outcome, carriedOut, printing}
@@ -15,11 +18,11 @@ use Rattle.step.specs.Lent.{Cells, Lent, After, after, OnStack, onStack,
 use Rattle.step.specs.Cell.{cellAt, isCell, numberOf, written}
 use Rattle.step.specs.Find.{first, second}
 
--- Add has code 1, Sub 2
-unfoldable pub sumOf : ℕ → ℤ → ℤ → ℤ
-sumOf code a b = choose (eqb code 1) (addWrap a b) (subWrap a b)
+-- the word that the whole-number sum or difference is; Add has code 1, Sub 2
+unfoldable pub sumOf : ℕ → ℤ → ℤ → Exact
+sumOf code a b = choose (eqb code 1) (exactly (a +ℤ b)) (exactly (a -ℤ b))
 
--- Bnz's target
+-- Bnz's target: a place and an operand of a sheet, whose sum does not wrap
 unfoldable pub branchOf : ℤ → ℤ → ℤ → ℤ
 branchOf number pc operand = choose (isZero number) (addWrap pc (pos 1)) (addWrap pc operand)
 
@@ -28,8 +31,12 @@ abbrev pub refilling : Machine → List ℤ → ℤ → ℕ → ℕ → OnStack
 refilling m stack number label p = onStack (outcome (following (pushed m) p) carriedOut) (refilledStack m stack number label)
 
 module _ (p r : ℕ) (m : Machine) where
+  abbrev pub arithFrom : List ℤ → Exact → OnStack
+  arithFrom stack Exact.Outside = onStack (outcome m 9) stack
+  arithFrom stack (Exact.Number number) = refilling (dropped (dropped m)) stack number r p
+
   unfoldable pub arithEffect : ℕ → List ℤ → OnStack
-  arithEffect code stack = refilling (dropped (dropped m)) stack (sumOf code (first m stack .number) (second m stack .number)) r p
+  arithEffect code stack = arithFrom stack (sumOf code (first m stack .number) (second m stack .number))
 
   unfoldable pub outputEffect : List ℤ → Stepped
   outputEffect stack = printing (following (dropped m) p) (first m stack .number) r

@@ -4,6 +4,7 @@ use crate::cell::Content;
 use label::Label;
 use stack::Machine;
 use stack::Stepped;
+use word::exact::Exact;
 use word::kind::Address;
 use word::kind::Pc;
 ghost use mathlib.Core.Path.{_≡_};
@@ -11,14 +12,14 @@ ghost use Rattle.step.specs.Lent.{cells, lent, after, onStack, onCells};
 ghost use Rattle.step.specs.Effect.{sumOf, branchOf, arithEffect, popEffect, outputEffect, pushEffect};
 ghost use Rattle.step.specs.Effect.{loadEffect, storeEffect, jumpEffect, bnzEffect, callEffect, effectOf};
 
-// What Add (code 1) and Sub leave.
-fn sum(code: u64, a: i64, b: i64) -> i64
+// What Add (code 1) and Sub make of two values.
+fn sum(code: u64, a: i64, b: i64) -> Exact
     ensures { λ r. ⌜ r ≡ sumOf code a b ⌝ }
 {
     if code == 1 {
-        word::wrap::add(a, b)
+        word::exact::add(a, b)
     } else {
-        word::wrap::sub(a, b)
+        word::exact::sub(a, b)
     }
 }
 
@@ -33,16 +34,21 @@ fn branch(number: i64, pc: Pc, operand: i64) -> Pc
     }
 }
 
-// Add and Sub: the sum stands in place of the lower value, with the result label.
+// Add and Sub: the sum stands in place of the lower value, with the result label. One outside 64 bits is stop 9.
 pub fn arith(place: Label, result: Label, m: Machine, code: u64, stack: &mut [i64]) -> Stepped
     ensures { λ r. ⌜ onStack r (now (stack .exit)) ≡ arithEffect (place .0) (result .0) m code (now (stack .entry)) ⌝ }
 {
     let depth = m.depth;
     let b = stack::look(stack, depth, 1);
     let a = stack::look(stack, depth, 0);
-    let number = sum(code, a.number, b.number);
-    let over = m.drop().drop().refill(stack, number, result);
-    stack::carried(over.following(place))
+    let made = sum(code, a.number, b.number);
+    match made {
+        Exact::Number(number) => {
+            let over = m.drop().drop().refill(stack, number, result);
+            stack::carried(over.following(place))
+        }
+        Exact::Outside => stack::stopped(m, 9),
+    }
 }
 
 // Pop: one entry less.

@@ -36,7 +36,7 @@ pub(crate) struct Left {
     pub kernel: u64,
 }
 
-// One command: what it finds; the rule memory, which is consulted after the address and before room; what it does.
+// One command: what it finds; the rule memory, which is consulted after the address and before 64 bits and room; what it does.
 fn act(
     space: &[i64],
     size: usize,

@@ -2,7 +2,9 @@
 pub mod Test
 pub mod Digits
 pub mod Modulo
+pub mod Parts
 pub mod Wrap
+pub mod Exact
 pub mod Word
 pub mod Field
 pub mod Numeral

@@ -1,4 +1,5 @@
--- Numbers of k bits and whole numbers modulo 2^k: two's complement, and sums that wrap.
+-- Numbers of k bits and whole numbers modulo 2^k: two's complement, and sums that wrap. These are the kernel's; the sums of a sheet are
+-- exact (Exact.antt).
 use Prim.Native.Nat.{ℕ, suc, _-_, _%_, _^_, _<_}
 use mathlib.Core.Bool.{Bool, true, false}
 use lib.IntN.{ℤ, pos, negsuc, _+ℤ_, _-ℤ_}
@@ -26,7 +27,7 @@ signed k r = half (ltb r (2 ^ (k - 1))) k r
 unfoldable pub wrap : ℤ → ℤ
 wrap z = signed 64 (residue 64 z)
 
--- Add and Sub of document 01 wrap modulo 2^64
+-- Add and Sub of the kernel wrap modulo 2^64
 unfoldable pub addWrap : ℤ → ℤ → ℤ
 addWrap a b = wrap (a +ℤ b)
 

@@ -1,4 +1,5 @@
-// Words of 64 bits and what is read from them and written of them. Read in specs/: Wrap, Number, Digits, Field, Text.
+// Words of 64 bits and what is read from them and written of them. Read in specs/: Wrap, Exact, Number, Digits, Field, Text.
+pub mod exact;
 pub mod field;
 pub mod kind;
 pub mod memory;

@@ -1,16 +1,17 @@
-// Words as whole numbers modulo 2^64, by way of their bits in two's complement. Read specs/Wrap.antt first.
+// Words as whole numbers modulo 2^64, by way of their bits in two's complement. This is the kernel's arithmetic; the sheet's is exact
+// (exact.rt). Read specs/Wrap.antt first.
 ghost use mathlib.Core.Path.{_≡_};
 ghost use Prim.Native.Nat.{_^_, _<_, _≤_};
 ghost use Rattle.word.specs.Wrap.{residue, signed, addWrap, subWrap};
 
-// Add of document 01, which wraps.
+// Add of the kernel, which wraps.
 pub fn add(a: i64, b: i64) -> i64
     ensures { λ r. ⌜ r ≡ addWrap a b ⌝ }
 {
     complement(std::num::wrapping_add_u64(to_bits(a), to_bits(b)), 64)
 }
 
-// Sub of document 01, which wraps.
+// Sub of the kernel, which wraps.
 pub fn sub(a: i64, b: i64) -> i64
     ensures { λ r. ⌜ r ≡ subWrap a b ⌝ }
 {

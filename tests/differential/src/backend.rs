@@ -2,11 +2,11 @@
 //! with one deliberate fault each, on which the tests are tried.
 
 use model::engine::{judged, plain, tagged, Lent, Report};
-use model::machine::Kind;
+use model::machine::{whole, Judge, Kind};
 use model::page::page;
 use model::rules::{standard, Labels, Question, Table};
 use model::sample::Sample;
-use model::sheet::decode;
+use model::sheet::{decode, Command};
 use model::{flows, Refusal};
 
 /// An answer as the C interface gives it: refusal, position, stop, steps, pc, its label, depth, lines, faults, kernel
@@ -14,6 +14,22 @@ use model::{flows, Refusal};
 #[derive(Clone, Copy, Debug, PartialEq, Eq)]
 pub struct Answer {
     pub words: [u64; 10],
+}
+
+impl Answer {
+    /// The Add or Sub that a run was stopped at after its values were found, and what it comes to as a whole number.
+    pub fn sum(&self, sheet: &[u8], lent: &Lent) -> Option<(Command, i128)> {
+        let [0, _, 6 | 9, _, pc, _, depth, _, _, _] = self.words else { return None };
+        let command = *decode(sheet).ok()?.get(pc as usize)?;
+        let number = |below: usize| lent.stack[3 * (depth as usize - 1 - below) + 1];
+        matches!(command, Command::Add | Command::Sub)
+            .then(|| (command, whole(command, number(0), number(1))))
+    }
+}
+
+/// Whether a whole number is a number of the machine.
+pub fn fits(whole: i128) -> bool {
+    i64::try_from(whole).is_ok()
 }
 
 impl From<Result<Report, Refusal>> for Answer {
@@ -117,9 +133,31 @@ pub enum Fault {
     EndIsStep,
     /// The end line needs allowance.
     EndNeedsAllowance,
+    /// Sums outside 64 bits wrap.
+    SumWraps,
+    /// 2^63−1 is taken for outside.
+    LargestOutside,
+    /// −2^63 is taken for outside.
+    SmallestOutside,
+    /// 2^63 is taken for inside, and wraps.
+    LargestPassed,
+    /// −2^63−1 is taken for inside, and wraps.
+    SmallestPassed,
+    /// Sub is tested as if it were next − top.
+    SubTestedBackwards,
+    /// Stop 9 before the rule is asked, as far as the rule memory and its counts show it.
+    OverflowUnasked,
+    /// Stop 9 where the rule does not allow the sum.
+    OverflowBeforeDenied,
+    /// A sum that meets stop 9 has dropped its operands.
+    OverflowDrops,
+    /// A sum that meets stop 9 is counted as a step.
+    OverflowIsStep,
+    /// A sum that meets stop 9 has left what it wraps to.
+    OverflowLeavesSum,
 }
 
-pub const FAULTS: [Fault; 15] = [
+pub const FAULTS: [Fault; 26] = [
     Fault::OutputWithoutPlace,
     Fault::BranchWithoutPlace,
     Fault::StoreOnNewLabel,
@@ -135,6 +173,17 @@ pub const FAULTS: [Fault; 15] = [
     Fault::RoomByTwo,
     Fault::EndIsStep,
     Fault::EndNeedsAllowance,
+    Fault::SumWraps,
+    Fault::LargestOutside,
+    Fault::SmallestOutside,
+    Fault::LargestPassed,
+    Fault::SmallestPassed,
+    Fault::SubTestedBackwards,
+    Fault::OverflowUnasked,
+    Fault::OverflowBeforeDenied,
+    Fault::OverflowDrops,
+    Fault::OverflowIsStep,
+    Fault::OverflowLeavesSum,
 ];
 
 /// The model with one fault.
@@ -157,7 +206,7 @@ impl Faulty {
         }
     }
 
-    /// A run with the fault in what its end and its room come to.
+    /// A run with the fault in what its end, its room and an overflow come to.
     fn ending<F: FnOnce(&mut Lent) -> Answer>(
         &self,
         sheet: &[u8],
@@ -172,7 +221,8 @@ impl Faulty {
         }
         let mut answer = run(lent);
         lent.kinds.truncate(came.kinds.len());
-        let [refusal, _, stop, steps, pc, label, _, lines, _, _] = &mut answer.words;
+        let sum = answer.sum(sheet, lent).map(|(_, whole)| whole).filter(|&whole| !fits(whole));
+        let [refusal, _, stop, steps, pc, label, depth, lines, _, _] = &mut answer.words;
         if *refusal != 0 {
             return answer;
         }
@@ -196,17 +246,43 @@ impl Faulty {
                 *lines -= 1;
                 *stop = 1;
             }
+            (Fault::OverflowBeforeDenied, 6) if sum.is_some() => *stop = 9,
+            (Fault::OverflowDrops, 9) => *depth -= 2,
+            (Fault::OverflowIsStep, 9) => *steps += 1,
+            (Fault::OverflowLeavesSum, 9) => {
+                let whole = sum.expect("stop 9 is of a sum outside 64 bits");
+                lent.stack[3 * (*depth as usize - 2) + 1] = whole as i64;
+            }
             _ => {}
         }
         answer
     }
 }
 
+impl Judge for Faulty {
+    fn judge(&mut self, question: &Question) -> Option<Labels> {
+        self.rule(question)
+    }
+
+    fn combine(&mut self, command: Command, top: i64, under: i64) -> Option<i64> {
+        let whole = whole(command, top, under);
+        let right = i64::try_from(whole).ok();
+        let wrapped = Some(whole as i64);
+        match self.0 {
+            Fault::SumWraps => wrapped,
+            Fault::LargestOutside => right.filter(|&number| number != i64::MAX),
+            Fault::SmallestOutside => right.filter(|&number| number != i64::MIN),
+            Fault::LargestPassed if whole == i128::from(i64::MAX) + 1 => wrapped,
+            Fault::SmallestPassed if whole == i128::from(i64::MIN) - 1 => wrapped,
+            Fault::SubTestedBackwards if command == Command::Sub => wrapped.filter(|_| fits(-whole)),
+            _ => right,
+        }
+    }
+}
+
 impl Backend for Faulty {
     fn plain(&self, sheet: &[u8], lent: &mut Lent, fuel: u64) -> Answer {
-        self.ending(sheet, lent, fuel, |lent| {
-            judged(sheet, lent, fuel, &mut |question: &_| self.rule(question)).into()
-        })
+        self.ending(sheet, lent, fuel, |lent| judged(sheet, lent, fuel, &mut Faulty(self.0)).into())
     }
 
     fn tagged(&self, sheet: &[u8], table: &[u8], lent: &mut Lent, fuel: u64) -> Answer {
@@ -217,9 +293,16 @@ impl Backend for Faulty {
         if self.0 == Fault::HandlerAllows {
             sample.allow_all();
         }
-        let mut answer = self.ending(sheet, lent, fuel, |lent| {
+        let mut before = lent.clone();
+        let run = |lent: &mut Lent, fuel| -> Answer {
             tagged(sheet, table, sample.handler(), lent, fuel).answer.into()
-        });
+        };
+        let mut answer = self.ending(sheet, lent, fuel, |lent| run(lent, fuel));
+        if self.0 == Fault::OverflowUnasked && answer.words[2] == 9 {
+            let spent = run(&mut before, answer.words[3]);
+            answer.words[8..].copy_from_slice(&spent.words[8..]);
+            lent.rule_memory = before.rule_memory;
+        }
         if self.0 == Fault::FaultTooMany && answer.words[8] > 0 {
             answer.words[8] += 1;
         }

@@ -6,8 +6,10 @@ use crate::random::Random;
 use crate::shrink::shrink;
 use crate::tally::Tally;
 use model::engine::{judged, tagged, Handler, Lent};
+use model::machine::{whole, Judge};
 use model::page::{page, read};
-use model::rules::{standard, Question, Table, STANDARD};
+use model::rules::{standard, Labels, Question, Table, STANDARD};
+use model::sheet::Command;
 
 /// Which lent words differ, if any do.
 fn lent_difference(engine: &Lent, model: &Lent) -> Option<String> {
@@ -42,15 +44,27 @@ fn same(what: &str, engine: (Answer, &Lent), model: (Answer, &Lent)) -> Result<(
     }
 }
 
+/// The standard rules, with a note of all that they are asked.
+struct Noted<'a>(&'a mut Tally);
+
+impl Judge for Noted<'_> {
+    fn judge(&mut self, question: &Question) -> Option<Labels> {
+        self.0.judged(question);
+        standard(question)
+    }
+
+    fn combine(&mut self, command: Command, top: i64, under: i64) -> Option<i64> {
+        let number = i64::try_from(whole(command, top, under)).ok()?;
+        self.0.combined(command, number);
+        Some(number)
+    }
+}
+
 fn compare_plain(backend: &dyn Backend, start: &Start, tally: &mut Tally) -> Result<(), String> {
     let mut by_engine = start.lent.clone();
     let engine = backend.plain(&start.sheet, &mut by_engine, start.fuel);
     let mut by_model = start.lent.clone();
-    let model = judged(&start.sheet, &mut by_model, start.fuel, &mut |question: &Question| {
-        tally.judged(question);
-        standard(question)
-    });
-    let model = Answer::from(model);
+    let model = Answer::from(judged(&start.sheet, &mut by_model, start.fuel, &mut Noted(tally)));
     tally.plain.note(&model, start, &by_model);
     same("plain", (engine, &by_engine), (model, &by_model))
 }

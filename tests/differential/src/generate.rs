@@ -86,7 +86,7 @@ impl Builder<'_> {
 
     /// Leaves one value on the stack.
     fn value(&mut self, depth: usize) {
-        match self.random.weighted(&[30, 45, if depth > 0 { 20 } else { 0 }, 2]) {
+        match self.random.weighted(&[300, 450, if depth > 0 { 200 } else { 0 }, 20, 8, 12]) {
             0 => {
                 let operand = number(self.random);
                 self.put(Push(operand));
@@ -98,11 +98,41 @@ impl Builder<'_> {
                 let command = self.random.pick(&[Add, Sub]);
                 self.put(command);
             }
-            _ => {
+            3 => {
                 self.cell();
                 self.put(Load);
             }
+            4 => self.cell_at_brink(),
+            _ => self.brink(),
         }
+    }
+
+    /// A sum or difference with a cell's number, which takes it past a limit of the numbers or does not.
+    fn cell_at_brink(&mut self) {
+        let limit = self.random.pick(&[i64::MIN, i64::MAX]);
+        let near = limit - limit.signum() * self.random.between(0, 6) as i64;
+        let command = self.random.pick(&[Add, Sub]);
+        self.cell();
+        self.put(Push(near));
+        self.put(command);
+    }
+
+    /// A sum or difference that is a limit of the numbers, or next to it on either side.
+    fn brink(&mut self) {
+        let command = self.random.pick(&[Add, Sub]);
+        let limit = self.random.pick(&[i64::MIN, i64::MAX]);
+        let result = i128::from(limit) + self.random.pick(&[-1, 0, 1]);
+        let top = number(self.random);
+        let under = |top: i64| match command {
+            Add => result - i128::from(top),
+            _ => i128::from(top) - result,
+        };
+        // Of a number and its complement one is on the limit's side.
+        let operands = [top, !top].into_iter().find_map(|top| Some([under(top).try_into().ok()?, top]));
+        for number in operands.unwrap_or([limit, limit]) {
+            self.put(Push(number));
+        }
+        self.put(command);
     }
 
     fn cell(&mut self) {
@@ -345,6 +375,9 @@ pub fn commands(random: &mut Random, cells: usize) -> Vec<Command> {
         0 => {
             let snippets = random.between(1, 8);
             let mut builder = Builder { random, commands: Vec::new(), cells, ends: Vec::new() };
+            if builder.random.percent(3) {
+                builder.cell_at_brink();
+            }
             for _ in 0..snippets {
                 builder.snippet(3);
             }
@@ -520,6 +553,16 @@ fn tree_table(random: &mut Random) -> Table {
     table
 }
 
+/// The standard table, but for sums and differences of secrets, which are not allowed.
+fn no_secret_sums() -> Vec<u8> {
+    let mut table = Table::parse(&STANDARD).expect("the standard table is a table");
+    for rule in &mut table.rules[..2] {
+        let inputs = LabelTree::Join(LabelTree::Input(1).into(), LabelTree::Input(2).into());
+        rule.allowed = YesNoTree::Flows(inputs, LabelTree::Empty);
+    }
+    table.bytes()
+}
+
 /// A rule table's bytes: standard, another, or none.
 pub fn table(random: &mut Random) -> Vec<u8> {
     match random.weighted(&[45, 38, 10, 3, 2, 2]) {
@@ -652,8 +695,12 @@ pub fn fuel(random: &mut Random) -> u64 {
 pub fn start(random: &mut Random, handler_count: impl Fn(&[u8]) -> u64) -> Start {
     let cells = cells(random);
     let sheet = sheet(random, cells.len());
-    let table = table(random);
+    let mut table = table(random);
     let commands = decode(&sheet);
+    // Sums that both the table and the limits of numbers may stop.
+    if matches!(commands.as_deref(), Ok([Push(_), Load, Push(_), Add | Sub, ..])) && random.percent(50) {
+        table = no_secret_sums();
+    }
     let first = commands.as_ref().ok().and_then(|commands| commands.first().copied());
     let mut values: Vec<i64> = cells.iter().map(|cell| cell.number).collect();
     let mut labels: Vec<i64> = cells.iter().map(|cell| cell.label.into()).collect();

@@ -28,6 +28,9 @@ pub struct Pairs {
     pub one_ends: u64,
     /// Runs that came to their end at a place whose label is outside the set.
     pub hidden_ends: u64,
+    /// Pairs of which one run was stopped by an overflow, and those of them in which that cut its view short.
+    pub one_overflows: u64,
+    pub overflow_cuts: u64,
 }
 
 impl Pairs {
@@ -40,6 +43,7 @@ impl Pairs {
             "end lines in both views {}, in one {}, outside the set {}",
             self.both_end, self.one_ends, self.hidden_ends
         );
+        println!("stop 9 in one run {}, its view the shorter {}", self.one_overflows, self.overflow_cuts);
     }
 
     /// What was not reached though it should be.
@@ -52,6 +56,8 @@ impl Pairs {
             ("end lines in both views", self.both_end),
             ("an end line in one view", self.one_ends),
             ("an end outside the set", self.hidden_ends),
+            ("stop 9 in one run", self.one_overflows),
+            ("a view that stop 9 cut", self.overflow_cuts),
         ]
         .into_iter()
         .filter(|&(_, count)| count == 0)
@@ -176,6 +182,12 @@ pub fn privacy_case(backend: &dyn Backend, seed: u64, case: u64, pairs: &mut Pai
     pairs.one_ends += u64::from(ends[0] != ends[1]);
     pairs.hidden_ends +=
         [&one, &two].into_iter().filter(|run| run.is_at_end() && !run.cleared).count() as u64;
+    let overflows = [&one, &two].map(|run| run.stop == Stop::Overflow as u64);
+    if overflows[0] != overflows[1] {
+        let (cut, other) = if overflows[0] { (&one, &two) } else { (&two, &one) };
+        pairs.one_overflows += 1;
+        pairs.overflow_cuts += u64::from(cut.view.len() < other.view.len());
+    }
     let Some(wrong) = wrong(&one, &two) else {
         return Ok(());
     };

@@ -1,12 +1,12 @@
 //! What was reached, how often: a test that never meets a stop says nothing about it.
 
-use crate::backend::Answer;
+use crate::backend::{fits, Answer};
 use crate::generate::Start;
 use model::engine::Lent;
 use model::machine::Kind;
 use model::page::JobFault;
 use model::rules::{Question, Table, TableFault, DEPTH};
-use model::sheet::decode;
+use model::sheet::{decode, Command};
 
 const TABLE_FAULTS: [TableFault; 7] = [
     TableFault::TooLong,
@@ -33,10 +33,24 @@ const ENDS: [&str; 5] =
 /// Stop 8 where one run of the output space alone is the shortest.
 const FULL: [&str; 3] = ["stop 8 by numbers", "stop 8 by labels", "stop 8 by kinds"];
 
+/// Stop 9 by command and side; by one is at the number next to the limit.
+const OVERFLOWS: [&str; 7] = [
+    "stop 9, Add above",
+    "stop 9, Add below",
+    "stop 9, Sub above",
+    "stop 9, Sub below",
+    "stop 9 by one above",
+    "stop 9 by one below",
+    "stop 9, hidden place",
+];
+
+/// Sums that are a limit.
+const LIMITS: [&str; 4] = ["Add to 2^63-1", "Add to -2^63", "Sub to 2^63-1", "Sub to -2^63"];
+
 /// Counts for one engine.
 #[derive(Clone, Default)]
 pub struct Engine {
-    pub stops: [u64; 9],
+    pub stops: [u64; 10],
     pub refusals: [u64; 10],
     /// Refusal 8 by its place.
     pub spaces: [u64; 4],
@@ -47,6 +61,9 @@ pub struct Engine {
     pub longest: u64,
     pub ends: [u64; ENDS.len()],
     pub full: [u64; FULL.len()],
+    pub overflows: [u64; OVERFLOWS.len()],
+    /// Stop 6 at a sum that is outside 64 bits.
+    pub denied_overflows: u64,
 }
 
 impl Engine {
@@ -80,10 +97,32 @@ impl Engine {
         for (count, alone) in self.full.iter_mut().zip(shortest) {
             *count += u64::from(full && alone);
         }
+        let Some((command, sum)) = answer.sum(&start.sheet, lent).filter(|&(_, sum)| !fits(sum)) else {
+            return;
+        };
+        if stop == 6 {
+            self.denied_overflows += 1;
+            return;
+        }
+        let (add, above) = (command == Command::Add, sum > 0);
+        let met = [
+            add && above,
+            add && !above,
+            !add && above,
+            !add && !above,
+            sum == i128::from(i64::MAX) + 1,
+            sum == i128::from(i64::MIN) - 1,
+            label != 0,
+        ];
+        for (count, met) in self.overflows.iter_mut().zip(met) {
+            *count += u64::from(met);
+        }
     }
 
-    fn ends_and_full(&self) -> impl Iterator<Item = (&'static str, u64)> + '_ {
-        ENDS.into_iter().chain(FULL).zip(self.ends.iter().chain(&self.full).copied())
+    /// What was met of ends, full space and overflows, by name.
+    fn details(&self) -> impl Iterator<Item = (&'static str, u64)> + '_ {
+        let names = ENDS.into_iter().chain(FULL).chain(OVERFLOWS);
+        names.zip(self.ends.iter().chain(&self.full).chain(&self.overflows).copied())
     }
 }
 
@@ -95,6 +134,8 @@ pub struct Tally {
     pub commands: [u64; 12],
     /// The same at a place whose label is not empty.
     pub hidden: [u64; 12],
+    /// Sums that are a limit, on the plain engine.
+    pub limits: [u64; LIMITS.len()],
     /// Refused tables by what is wrong with them.
     pub table_faults: [u64; 7],
     /// Tables of accepted runs that are not the standard one; their longest, deepest, and longest handler.
@@ -119,6 +160,16 @@ impl Tally {
         self.commands[usize::from(question.code)] += 1;
         if question.place != 0 {
             self.hidden[usize::from(question.code)] += 1;
+        }
+    }
+
+    /// A sum or difference that is a number.
+    pub fn combined(&mut self, command: Command, number: i64) {
+        let first = if command == Command::Add { 0 } else { 2 };
+        match number {
+            i64::MAX => self.limits[first] += 1,
+            i64::MIN => self.limits[first + 1] += 1,
+            _ => {}
         }
     }
 
@@ -157,9 +208,13 @@ impl Tally {
             for place in 1..=if rules { 3 } else { 2 } {
                 want(format!("{name}: refusal 8 at {place}"), engine.spaces[place]);
             }
-            for (what, count) in engine.ends_and_full() {
+            for (what, count) in engine.details() {
                 want(format!("{name}: {what}"), count);
             }
+        }
+        want("tagged: stop 6 at a sum outside 64 bits".into(), self.tagged.denied_overflows);
+        for (what, &count) in LIMITS.iter().zip(&self.limits) {
+            want((*what).into(), count);
         }
         for code in 0x01..=0x0b {
             want(format!("command {code:02x}"), self.commands[code]);
@@ -185,12 +240,13 @@ impl Tally {
     pub fn print(&self) {
         println!("{:>22} {:>12} {:>12}", "", "plain", "tagged");
         let row = |name: String, plain: u64, tagged: u64| println!("{name:>22} {plain:>12} {tagged:>12}");
-        for stop in 0..9 {
+        for stop in 0..10 {
             row(format!("stop {stop}"), self.plain.stops[stop], self.tagged.stops[stop]);
         }
-        for ((what, plain), (_, tagged)) in self.plain.ends_and_full().zip(self.tagged.ends_and_full()) {
+        for ((what, plain), (_, tagged)) in self.plain.details().zip(self.tagged.details()) {
             row(what.into(), plain, tagged);
         }
+        row("stop 6 before 9".into(), self.plain.denied_overflows, self.tagged.denied_overflows);
         for number in 1..10 {
             row(format!("refusal {number}"), self.plain.refusals[number], self.tagged.refusals[number]);
         }
@@ -206,6 +262,11 @@ impl Tally {
         for code in 0x01..=0x0b {
             row(format!("{code:02x}"), self.commands[code], self.hidden[code]);
         }
+        print!("sums at the limits:");
+        for (what, count) in LIMITS.iter().zip(&self.limits) {
+            print!(" {what}: {count}");
+        }
+        println!();
         println!(
             "other tables {}: longest {} bytes, {} deep, longest handler {}; filled rule memories {}",
             self.other_tables,

@@ -1,4 +1,5 @@
-//! The kernel: runs a handler's words on the seven words of the rule memory (document 01, "Tag engine").
+//! The kernel: runs a handler's words on the seven words of the rule memory (document 01, "Tag engine"). Its sums wrap,
+//! those of sheets do not (document 02, U2).
 
 use crate::rules::RuleMemory;
 

@@ -1,5 +1,5 @@
-//! The labelled sheet machine in plain Rust, written from document 01 and document 02's change U1 alone, to hold the
-//! proved engines against. docs/MANUAL.md describes the machine in other words.
+//! The labelled sheet machine in plain Rust, written from document 01 and document 02's changes U1 and U2 alone, to hold
+//! the proved engines against. docs/MANUAL.md describes the machine in other words.
 //!
 //! It shares nothing with them: sheets are decoded to an enum, rule tables to trees, the stack is a `Vec`. What
 //! document 01 leaves open, the handler's own commands, comes in from outside as words, which [`kernel`] runs and

@@ -1,5 +1,5 @@
 //! The machine: its state, its step and its runs (document 01, "Atoms, cells, stack", "Commands", "Stops"; document 02,
-//! U1, for the end line).
+//! U1, for the end line, and U2, for sums outside 64 bits).
 
 use crate::rules::{Labels, Question};
 use crate::sheet::Command;
@@ -25,6 +25,8 @@ pub enum Stop {
     NotAllowed = 6,
     StackFull = 7,
     OutputFull = 8,
+    /// Tested after 6 and before 7 and 8.
+    Overflow = 9,
 }
 
 /// What a line says: a number that an Output dropped, or that the run came to the sheet's end.
@@ -89,9 +91,25 @@ impl Stack {
     }
 }
 
+/// What an Add or a Sub comes to, as a whole number.
+pub fn whole(command: Command, top: i64, under: i64) -> i128 {
+    let (top, under) = (i128::from(top), i128::from(under));
+    if command == Command::Add {
+        top + under
+    } else {
+        top - under
+    }
+}
+
 /// Who says what is allowed: the standard rules, a table, or a rule memory before a handler.
 pub trait Judge {
     fn judge(&mut self, question: &Question) -> Option<Labels>;
+
+    /// The number that an allowed Add or Sub gives, unless it is outside 64 bits. A method, so that a test can count
+    /// these, or have them wrong.
+    fn combine(&mut self, command: Command, top: i64, under: i64) -> Option<i64> {
+        i64::try_from(whole(command, top, under)).ok()
+    }
 }
 
 /// A function of the question alone is a judge.
@@ -181,9 +199,10 @@ impl Machine {
                 self.stack.pop();
             }
             Add | Sub => {
-                let top = self.stack.pop_atom().number;
-                let under = self.stack.pop_atom().number;
-                let number = if command == Add { top.wrapping_add(under) } else { top.wrapping_sub(under) };
+                let number = judge.combine(command, atoms[0].number, atoms[1].number);
+                let number = number.ok_or(Stop::Overflow)?;
+                self.stack.pop();
+                self.stack.pop();
                 self.stack.push(Entry::Value(result(number)));
             }
             Load => {

@@ -22,6 +22,7 @@ fn left(commands: &[[i64; 2]]) -> i64 {
 fn commands() {
     assert_eq!(left(&[[5, 2], [5, 7], [1, 0]]), 9);
     assert_eq!(left(&[[5, 2], [5, 7], [2, 0]]), 5);
+    assert_eq!(left(&[[5, 1], [5, i64::MAX], [1, 0]]), i64::MIN);
     assert_eq!(left(&[[5, i64::MIN], [5, i64::MAX], [2, 0]]), -1);
     assert_eq!(left(&[[5, 6], [5, 9], [0x11, 0]]), 15);
     assert_eq!(left(&[[5, 4], [6, 0]]), 4);

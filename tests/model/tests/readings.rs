@@ -1,4 +1,5 @@
-//! Document 01's readings, starred and unstarred, as document 02's U1 leaves them, and U1's own cases, on both engines.
+//! Document 01's readings, starred and unstarred, as document 02's U1 and U2 leave them, and these changes' own cases, on
+//! both engines.
 
 use model::engine::{plain, tagged, Handler, Lent, Report};
 use model::machine::{Kind, Line, Stop};
@@ -118,9 +119,93 @@ fn reading_5() {
 }
 
 #[test]
-fn readings_6_to_10() {
+fn reading_6() {
     let run = run(&[Push(i64::MAX), Push(1), Add, Output]);
-    assert_eq!(run.lines, [line(i64::MIN, 0), end(0)]);
+    let report = run.report;
+    assert_eq!((report.stop, report.steps, report.place, report.depth), (Stop::Overflow, 2, 2, 2));
+    assert_eq!((run.lines, &run.lent.stack[..6]), (vec![], &[0, i64::MAX, 0, 0, 1, 0][..]));
+    // The rule was asked: a Push and the Add were faults, and the Add's row is there, as where the sum fits.
+    let fits = run_with(&[Push(i64::MAX), Push(0), Add], &CELLS, 3, 1).unwrap();
+    assert_eq!((report.faults, fits.report.faults), (2, 2));
+    assert_eq!(report.kernel_steps, fits.report.kernel_steps);
+    assert_eq!(run.lent.rule_memory, [1, 0, 0, 0, -1, 0, 0]);
+    assert_eq!(run.lent.rule_memory, fits.lent.rule_memory);
+}
+
+#[test]
+fn sums_at_the_limits() {
+    const LEAST: i64 = i64::MIN;
+    const MOST: i64 = i64::MAX;
+    // Add is top + next, Sub top - next.
+    for (command, top, next, number) in [
+        (Add, MOST, 0, Some(MOST)),
+        (Add, MOST, 1, None),
+        (Add, 1, MOST, None),
+        (Add, LEAST, 0, Some(LEAST)),
+        (Add, LEAST, -1, None),
+        (Add, -1, LEAST, None),
+        (Add, LEAST, MOST, Some(-1)),
+        (Sub, LEAST, 0, Some(LEAST)),
+        (Sub, LEAST, 1, None),
+        (Sub, 1, LEAST, None),
+        (Sub, 0, LEAST, None),
+        (Sub, -1, LEAST, Some(MOST)),
+        (Sub, MOST, -1, None),
+        (Sub, -1, MOST, Some(LEAST)),
+        (Sub, -2, MOST, None),
+    ] {
+        let run = run(&[Push(next), Push(top), command, Output]);
+        let outcome = (run.report.stop, run.report.steps, run.report.depth, run.lines);
+        assert_eq!(
+            outcome,
+            match number {
+                Some(number) => (Stop::End, 4, 0, vec![line(number, 0), end(0)]),
+                None => (Stop::Overflow, 2, 2, vec![]),
+            },
+            "{command:?} of {top} and {next}"
+        );
+    }
+}
+
+#[test]
+fn an_overflow_changes_only_what_the_rule_memory_keeps() {
+    // A cell and a line are written, then a call branches on a secret, and the sum is made at a hidden place.
+    let before = [Push(9), Push(0), Store, Push(3), Output, Push(1), Load, Push(9), Call];
+    let sheet = [&before[..], &[Bnz(1), Push(i64::MIN), Push(-1), Add, Ret]].concat();
+    let spent = run_with(&sheet, &CELLS, 12, 5).unwrap();
+    let cut = run_with(&sheet, &CELLS, 13, 5).unwrap();
+    let Report { faults, kernel_steps, .. } = cut.report;
+    assert_eq!((spent.report.stop, spent.report.steps), (Stop::AllowanceSpent, 12));
+    assert_eq!(cut.report, Report { stop: Stop::Overflow, faults, kernel_steps, ..spent.report });
+    assert_eq!((cut.report.place_label, cut.report.depth, cut.report.lines), (1, 3, 1));
+    assert_eq!(faults, spent.report.faults + 1);
+    assert!(kernel_steps > spent.report.kernel_steps);
+    let rule_memory = vec![1, 1, 0, 0, -1, 1, 0];
+    assert_eq!(cut.lent, Lent { rule_memory, ..spent.lent });
+    // Where the row is there already, the overflow is no fault.
+    let matched = run(&[Push(i64::MAX), Push(0), Push(1), Add, Add]).report;
+    assert_eq!((matched.stop, matched.steps, matched.faults), (Stop::Overflow, 4, 2));
+}
+
+#[test]
+fn a_denied_sum_is_stop_6_whatever_it_is() {
+    // Add only of a public number on top.
+    let table = [&[0x16, 0x12, 0x10], &STANDARD[1..]].concat();
+    let sample = Sample::of(&Table::parse(&table).unwrap());
+    let run = |top| {
+        let mut lent = Lent::roomy(&[Atom { number: i64::MAX, label: 0 }, Atom { number: 1, label: 1 }], 5);
+        let sheet = encode(&[Push(1 - top), Load, Push(top), Load, Add]);
+        let run = tagged(&sheet, &table, sample.handler(), &mut lent, 10);
+        assert_eq!(run.wrong, None);
+        let report = run.answer.unwrap();
+        (report.stop, report.steps, lent.rule_memory)
+    };
+    assert_eq!(run(1), (Stop::NotAllowed, 4, vec![1, 0, 1, 0, -1, -1, -1]));
+    assert_eq!(run(0), (Stop::Overflow, 4, vec![1, 0, 0, 1, -1, 0, 1]));
+}
+
+#[test]
+fn readings_7_to_10() {
     assert_eq!(stop_and_lines(&[], 0), (Stop::End, vec![end(0)]));
     assert_eq!(stop_and_lines(&[Push(1)], 0), (Stop::AllowanceSpent, vec![]));
     assert_eq!(stop_and_lines(&[Ret], 10), (Stop::FrameMissing, vec![]));
@@ -182,6 +267,9 @@ fn pages_that_are_cut_and_whole() {
     let lines = |count| "1 00000000\n".repeat(count);
     assert_eq!(printing(LINES - 1), lines(LINES - 1) + "end 00000000\n");
     assert_eq!(printing(LINES), lines(LINES));
+    // Cut by an overflow after a line.
+    let sheet = [Push(4), Output, Push(i64::MAX), Push(1), Add, Output];
+    assert_eq!(page(&job(0, &sheet)), "4 00000000\n");
 }
 
 fn start_with_rule_memory(memory: [i64; 7]) -> Result<Report, Refusal> {

@@ -6,24 +6,26 @@ use mathlib.Core.List.{List, _∷_, map}
 use Prim.Native.Nat.{ℕ, zero, suc, _-_, _≤_, _<_}
 use native.Mathlib.Omega.{arith}
 use native.Mathlib.Numerals.{add-one}
-use lib.IntN.{ℤ, pos, negsuc, _+ℤ_}
+use lib.IntN.{ℤ, pos, negsuc, _+ℤ_, _-ℤ_}
 use lib.ListN.{length, length-append, length-map}
 use lib.Dec.{ltb}
 use borrow.Author.Tests.{ltb-true}
-use Rattle.word.specs.Wrap.{Signed, addWrap, subWrap}
+use Rattle.word.specs.Choose.{choose}
+use Rattle.word.specs.Wrap.{Signed}
+use Rattle.word.specs.declared.exact.Exact.the-variants.{Number, Outside}
+use Rattle.word.specs.Exact.{isSigned, exactly}
 use Rattle.program.specs.declared.Command.{Command}
 use Rattle.program.specs.declared.Command.the-variants.{Add, Sub, Pop, Output, Push, Load, Store, Jump, Bnz, Call, Ret}
 use Rattle.machine.specs.Atom.{Atom, Entry, value, frame, numberLine}
-use Rattle.machine.specs.Rule.{missing}
-use Rattle.machine.specs.State.{State, outputFull, stackFull}
-use Rattle.machine.specs.Step.{Outcome, Request, ask, provided, withValues, stackLimit, request, of, atom, next, printing, branch}
+use Rattle.machine.specs.State.{State, overflow, outputFull, stackFull}
+use Rattle.machine.specs.Step.{Outcome, Request, provided, stackLimit, making, request, atom, next, printing, branch}
 use Rattle.stack.specs.Words.{machine, pushed, dropped, gone, slotAt}
 use Rattle.step.specs.declared.find.Inputs.{Inputs}
 use Rattle.step.specs.Lent.{Cells, cells, Lent, After, after, OnStack, withStack}
 use Rattle.step.specs.Cell.{labelOf}
 use Rattle.step.specs.Find.{first, second, loadFinding, storeFinding, twoValues, oneValue, callValues, oneFrame, loadCell, storeCell}
 use Rattle.step.specs.Find.{findOf}
-use Rattle.step.specs.Effect.{sumOf, branchOf, refilling, arithEffect, popEffect, outputEffect, pushEffect}
+use Rattle.step.specs.Effect.{sumOf, branchOf, refilling, arithFrom, arithEffect, popEffect, outputEffect, pushEffect}
 use Rattle.step.specs.Effect.{loadEffect, storeEffect, jumpEffect, bnzEffect, callEffect, effectOf}
 use Rattle.engine.specs.Memory as Memory
 use Rattle.engine.specs.Act.{writeOf, emitOf}
@@ -109,27 +111,39 @@ module _ {room : ℕ} {o₀ : Memory.Output} {s : State} {l : Lent} {o : Memory.
   -- Add and Sub
   -- ══════════════════════════════════════════════════════════════════════════════════════════
 
-  -- what both ask and do, with the sum of either
-  arith-asks : (c : Command) (sum : ℤ → ℤ → ℤ)
-      → (let m = machineOf s in let n = sum (first m (l .stack) .number) (second m (l .stack) .number) in
-      (p label : ℕ) → effect c m l p label ≡ withStack l (refilling (dropped (dropped m)) (l .stack) n label p))
-      → Asks c (withValues (s .stack) (λ a b rest.
-      ask (of a) (of b) missing (λ p label. next s p (value (atom (sum (a .number) (b .number)) label) ∷ rest))))
-      (twoValues (machineOf s) (l .stack))
+  -- the whole number that is made of two values is a word, or it is stop 9
+  number-made : (a b : Atom) (rest : List Entry) (n : ℤ) (label p : ℕ) → s .stack ≡ value a ∷ value b ∷ rest
+      → Sim (provided (isSigned 64 n) overflow (next s p (value (atom n label) ∷ rest)))
+      (withStack l (arithFrom p label (machineOf s) (l .stack) (exactly n)))
+  unfolding exactly
+  number-made a b rest n label p e = by (isSigned 64 n)
+    where
+      by : (t : Bool) → Sim (provided t overflow (next s p (value (atom n label) ∷ rest)))
+          (withStack l (arithFrom p label (machineOf s) (l .stack) (choose t (Number n) Outside)))
+      by true = refill-two rest a b n label p e
+      by false = stop-simulates room o₀ (machineOf s) l o overflow
+
+  -- what both ask and do
+  making-looks : (c : Command) (make : ℤ → ℤ → ℤ)
+      → (let m = machineOf s in let n = make (first m (l .stack) .number) (second m (l .stack) .number) in
+      (p label : ℕ) → effect c m l p label ≡ withStack l (arithFrom p label m (l .stack) (exactly n)))
+      → Asks c (making s make) (twoValues (machineOf s) (l .stack))
   unfolding twoValues
-  arith-asks c sum g =
+  making-looks c make g =
       rw (first-is, second-is) (values-needed (Asks c) (s .stack) _ _ _ refl (λ a b rest e. (
         rw e,
-        λ p label. rw (g p label, first-is, second-is, ap topSlot e, ap (λ es. topSlot (below es)) e) (refill-two rest a b _ label p e),
+        λ p label.
+            rw (g p label, first-is, second-is, ap topSlot e, ap (λ es. topSlot (below es)) e)
+            (number-made a b rest (make (a .number) (b .number)) label p e),
       )))
 
   pub add-looks : Found Add
   unfolding request findOf effectOf arithEffect sumOf
-  add-looks = arith-asks Add addWrap (λ p label. refl)
+  add-looks = making-looks Add _+ℤ_ (λ p label. refl)
 
   pub sub-looks : Found Sub
   unfolding request findOf effectOf arithEffect sumOf
-  sub-looks = arith-asks Sub subWrap (λ p label. refl)
+  sub-looks = making-looks Sub _-ℤ_ (λ p label. refl)
 
   -- ══════════════════════════════════════════════════════════════════════════════════════════
   -- Pop, Output and Push

@@ -4,22 +4,22 @@ use mathlib.Core.Path.{_≡_, refl}
 use mathlib.Core.Bool.{Bool, true, false}
 use mathlib.Core.List.{List, map}
 use Prim.Native.Nat.{ℕ}
-use lib.IntN.{ℤ, pos}
+use lib.IntN.{ℤ, pos, _+ℤ_, _-ℤ_}
 use lib.ListN.{length}
 use lib.Dec.{ltb}
-use Rattle.word.specs.Wrap.{addWrap, subWrap}
+use Rattle.word.specs.Exact.{isSigned}
 use Rattle.label.specs.Label.{join, flows}
 use Rattle.program.specs.declared.Command.{Command}
 use Rattle.program.specs.declared.Command.the-variants.{Add, Sub, Pop, Output, Push, Load, Store, Jump, Bnz, Call, Ret}
 use Rattle.machine.specs.Atom.{Atom, Entry}
-use Rattle.machine.specs.Rule.{allowedIf, standard}
-use Rattle.machine.specs.State.{State, Stop, outputFull, stackFull}
+use Rattle.machine.specs.Rule.{missing, allowed, allowedIf, standard}
+use Rattle.machine.specs.State.{State, Stop, overflow, outputFull, stackFull}
 use Rattle.machine.specs.Step.{Outcome, stepped, stackLimit, provided, Request, withValue, withValues, withFrame}
-use Rattle.machine.specs.Step.{withCell, decide, consult, request, execute, atom, branch, storing}
+use Rattle.machine.specs.Step.{withCell, of, keyOf, decide, consult, making, request, execute, atom, branch, storing}
 use Rattle.machine.proofs.Request.{At, value-all, values-all, frame-all, cell-all, provided-all}
 use Rattle.machine.proofs.Step.{Gives}
 use Rattle.machine.proofs.Privacy.Seen.{Seen, see, joined, see-one, see-both, see-bottom}
-use Rattle.machine.proofs.Privacy.Erasure.{View, Slot, slot, erase, pull, pulls, unwind, first, second, increment, lineOf, act}
+use Rattle.machine.proofs.Privacy.Erasure.{View, Slot, slot, erase, pull, pulls, unwind, first, second, increment, lineOf, make, act}
 use Rattle.machine.proofs.Privacy.Effect.{see-cell, see-stored, view-append, see-line}
 
 -- ════════════════════════════════════════════════════════════════════════════════════════════
@@ -63,12 +63,20 @@ allowed-shows S false p r k w h = tt
 -- The commands
 -- ════════════════════════════════════════════════════════════════════════════════════════════
 
+-- the whole number made of two values, labelled by their join; where it has no 64 bits the command is stopped
+making-shows : (S : ℕ) (c : Command) (s : State) (f : ℤ → ℤ → ℤ)
+    → ((a b : Atom) → standard (keyOf c s (of a) (of b) missing) ≡ allowed (s .pc .label) (join (a .label) (b .label)))
+    → Shows S c s (make (erase S s) f) (making s f)
+making-shows S c s f e =
+    values-shows S c s _ (s .stack) _ _ (λ a b rest.
+    rw (e a b)
+    (provided-shows S (isSigned 64 (f (a .number) (b .number))) overflow _ _
+    (rw (see-one S increment (s .pc), see-both S f a b))))
+
 pub act-shows : (S room : ℕ) (c : Command) (s : State) → Gives (λ t. erase S t ≡ act c (erase S s)) (execute standard room c s)
 unfolding execute request standard act
-act-shows S room Add s =
-    values-shows S Add s _ (s .stack) _ _ (λ a b rest. rw (see-one S increment (s .pc), see-both S addWrap a b))
-act-shows S room Sub s =
-    values-shows S Sub s _ (s .stack) _ _ (λ a b rest. rw (see-one S increment (s .pc), see-both S subWrap a b))
+act-shows S room Add s = making-shows S Add s _+ℤ_ (λ a b. refl)
+act-shows S room Sub s = making-shows S Sub s _-ℤ_ (λ a b. refl)
 act-shows S room Pop s = value-shows S Pop s _ (s .stack) _ _ (λ a rest. rw (see-one S increment (s .pc)))
 act-shows S room Output s =
     value-shows S Output s _ (s .stack) _ _ (λ a rest.

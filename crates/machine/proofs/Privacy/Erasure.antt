@@ -3,11 +3,10 @@
 -- Assumes nothing.
 use mathlib.Core.List.{List, [], _∷_, _++_, map}
 use Prim.Native.Nat.{ℕ, zero, suc}
-use lib.IntN.{ℤ, pos, negsuc, _+ℤ_}
+use lib.IntN.{ℤ, pos, negsuc, _+ℤ_, _-ℤ_}
 use lib.ListN.{length, set}
 use mathlib.Core.Option.{Option, none, some}
 use Rattle.word.specs.Choose.{choose}
-use Rattle.word.specs.Wrap.{addWrap, subWrap}
 use Rattle.label.specs.Label.{bottom}
 use Rattle.program.specs.declared.Command.{Command}
 use Rattle.program.specs.declared.Command.the-variants.{Add, Sub, Pop, Output, Push, Load, Store, Jump, Bnz, Call, Ret}
@@ -119,9 +118,13 @@ storeTo v stack x y = record { pc = following (v .pc); stack = stack; memory = c
 abbrev pub print : View → List Slot → Seen → View
 print v stack x = record { pc = following (v .pc); stack = stack; memory = v .memory; lines = v .lines ++ written lineOf x }
 
+-- Add's and Sub's: the whole number made of the two values on top
+abbrev pub make : View → (ℤ → ℤ → ℤ) → View
+make v f = pulls v (v .stack) (λ x y rest. onward v (holds (both f x y) ∷ rest))
+
 unfoldable pub act : Command → View → View
-act Add v = pulls v (v .stack) (λ x y rest. onward v (holds (both addWrap x y) ∷ rest))
-act Sub v = pulls v (v .stack) (λ x y rest. onward v (holds (both subWrap x y) ∷ rest))
+act Add v = make v _+ℤ_
+act Sub v = make v _-ℤ_
 act Pop v = pull v (v .stack) (λ x rest. onward v rest)
 act Output v =
     pull v (v .stack) (λ x rest. print v rest (both first x (v .pc)))

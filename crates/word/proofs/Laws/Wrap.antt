@@ -2,7 +2,7 @@
 -- remainder of a sum is that of the sum of the remainders.
 -- Assumes nothing.
 use mathlib.Core.Path.{_≡_, refl, sym, ap, _∙_}
-use mathlib.Core.Bool.{Bool, true, false, cond}
+use mathlib.Core.Bool.{Bool, true, false}
 use Prim.Native.Nat.{ℕ, zero, suc, _+_, _*_, _-_, _/_, _%_, _^_, _<_, _≤_}
 use native.Mathlib.Nat.{mod-lt, mod-mod, mod-eq-of-lt, mul-mod-left, suc-mul, div-add-mod', pow-suc, add-zero, zero-mod}
 use native.Mathlib.Omega.{arith}
@@ -12,6 +12,7 @@ use lib.Dec.{ltb}
 use borrow.Author.Tests.{lt-ltb, le-ltb, ltb-true, ltb-false}
 use Rattle.word.specs.Wrap.{Signed, residue, half, signed, wrap, addWrap, subWrap}
 use Rattle.word.proofs.Laws.Modulo.{mod-add, mod-cancel}
+use Rattle.word.proofs.Laws.Parts.{up, down, sum-parts}
 
 -- ════════════════════════════════════════════════════════════════════════════════════════════
 -- The two halves of the numbers of k bits
@@ -69,15 +70,6 @@ signed-range k r p h = by (ltb r (2 ^ (k - 1))) refl
 -- Sums and differences modulo 2^k
 -- ════════════════════════════════════════════════════════════════════════════════════════════
 
--- a whole number z is `up z` − `down z`
-abbrev up : ℤ → ℕ
-up (pos n) = n
-up (negsuc n) = 0
-
-abbrev down : ℤ → ℕ
-down (pos n) = 0
-down (negsuc n) = suc n
-
 residue-parts : (k : ℕ) (z : ℤ) → (residue k z + down z) % 2 ^ k ≡ up z % 2 ^ k
 unfolding residue
 residue-parts k (pos n) = rw (add-zero (n % 2 ^ k)) (mod-mod n (2 ^ k))
@@ -85,17 +77,6 @@ residue-parts k (negsuc n) =
     let e : 2 ^ k - suc (n % 2 ^ k) + suc n ≡ suc (n / 2 ^ k) * 2 ^ k =
     omega (arith, suc-mul (n / 2 ^ k) (2 ^ k), div-add-mod' n (2 ^ k), mod-lt n (pow-pos k)) in
     rw e (mul-mod-left (suc (n / 2 ^ k)) (2 ^ k) ∙ sym (zero-mod (2 ^ k)))
-
-sub-parts : (a b : ℕ) (t : Bool) → ltb a b ≡ t
-    → let z = cond t (negsuc (b - suc a)) (pos (a - b)) in up z + b ≡ a + down z
-sub-parts a b true e = omega (arith, ltb-true a b e)
-sub-parts a b false e = omega (arith, ltb-false a b e)
-
-sum-parts : (a b : ℤ) → up (a +ℤ b) + (down a + down b) ≡ up a + up b + down (a +ℤ b)
-sum-parts (pos a) (pos b) = omega arith
-sum-parts (pos a) (negsuc b) = omega (arith, sub-parts a (suc b) (ltb a (suc b)) refl)
-sum-parts (negsuc a) (pos b) = omega (arith, sub-parts b (suc a) (ltb b (suc a)) refl)
-sum-parts (negsuc a) (negsuc b) = omega arith
 
 pub residue-add : (k : ℕ) (a b : ℤ) → residue k (a +ℤ b) ≡ (residue k a + residue k b) % 2 ^ k
 residue-add k a b =

@@ -1,7 +1,7 @@
 -- `step::effect::sum` meets its contract.
 -- Assumes nothing.
 use borrow.Author.Tests.{eq-eqb, ne-eqb}
-use Rattle.word.proofs.Signed.{back, back-ok}
+use Rattle.word.proofs.Signed.{back}
 use Rattle.step.specs.Effect.{sumOf}
 use borrow.Author.Needs.{needs}
 use Rattle.step.proofs.effect.sum.Statement.{statement}
@@ -14,7 +14,6 @@ returns c =
     let start = at-if .before in
     rw (
       eq-eqb _ _ (at-if .if1 .taken),
-      back-ok (c .add .result) (c .add .ok),
       c .add .ensures,
       back {z = start .args .a} (start .fits .a),
       back {z = start .args .b} (start .fits .b),
@@ -27,7 +26,6 @@ returns-2 c =
     let start = at-if .before in
     rw (
       ne-eqb _ _ (at-if .if1 .left),
-      back-ok (c .sub .result) (c .sub .ok),
       c .sub .ensures,
       back {z = start .args .a} (start .fits .a),
       back {z = start .args .b} (start .fits .b),
