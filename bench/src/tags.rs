@@ -165,8 +165,11 @@ fn run(count: usize, lent: &mut Lent, fuel: u64) -> Report {
         match code {
             1 | 2 => {
                 let (left, right) = (stack[top + 1], stack[under + 1]);
-                let sum = if code == 1 { left.checked_add(right) } else { left.checked_sub(right) };
-                let Some(sum) = sum else { break Stop::Overflow };
+                let (sum, outside) =
+                    if code == 1 { left.overflowing_add(right) } else { left.overflowing_sub(right) };
+                if outside {
+                    break Stop::Overflow;
+                }
                 stack[under + 1] = sum;
                 stack[under + 2] = result;
                 depth -= 1;
