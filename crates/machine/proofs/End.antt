@@ -21,7 +21,7 @@ use Rattle.machine.specs.Rule.{Ruler, rules, fixed, standard}
 use Rattle.machine.specs.State.{State, Stop, start, stopNumber}
 use Rattle.machine.specs.Run.{Result, run}
 use Rattle.machine.specs.Claim.{view, keep, Start, OneStartsOther, Views}
-use Rattle.machine.specs.End.{isEnd, hasEnd, Whole, Tells, Complete, Means, Meant}
+use Rattle.machine.specs.End.{isEnd, hasEnd, closing, Closes, Whole, Tells, Complete, Means, Meant}
 use Rattle.machine.proofs.Step.{run-induction}
 use Rattle.machine.proofs.Execute.{Change}
 use Rattle.machine.proofs.Run.{stopped-other, stepped-explained}
@@ -42,16 +42,6 @@ hasEnd-append (l ∷ ls) ms = rw (hasEnd-append ls ms) (go (isEnd (l .kind)))
 
 neither : (ls ms : List Line) → hasEnd ls ≡ false → hasEnd ms ≡ false → hasEnd (ls ++ ms) ≡ false
 neither ls ms e f = rw (hasEnd-append ls ms, e, f)
-
--- what stands after the numbers: at stop 0 the end line, at another stop nothing
-abbrev closing : Stop → ℕ → List Line
-closing x p = choose (eqb (stopNumber x) 0) (endLine p ∷ []) []
-
--- the lines are so
-pub record Closes (x : Stop) (s : State) : Type 0 where
-  pub numbers : List Line
-  pub unended : hasEnd numbers ≡ false
-  pub lines : s .lines ≡ numbers ++ closing x (s .pc .label)
 
 pub run-closes : {R : Type 0} (ρ : Ruler R) (room : ℕ) (cs : List Command) (fuel : ℕ) (s : State) (u : R) → hasEnd (s .lines) ≡ false
     → let r : Result R = run ρ room cs fuel s u in Closes (r .stop) (r .state)

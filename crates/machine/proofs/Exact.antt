@@ -15,7 +15,7 @@ use Rattle.machine.specs.Step.{Outcome, provided, of, atom, next, keyOf,
 use Rattle.machine.specs.Run.{step}
 use Rattle.machine.specs.Stopped.{Makes, sum, difference, number}
 use Rattle.machine.specs.Holds.{Holds}
-use Rattle.machine.specs.Exact.{Brings, Tells, Origins}
+use Rattle.machine.specs.Exact.{Brings, Sums, Origins}
 use Rattle.machine.proofs.Step.{gives-stepped, step-at}
 use Rattle.machine.proofs.Holds.{step-holds}
 
@@ -32,8 +32,8 @@ made-asked : (π : Policy) (room : ℕ) (c : Command) (s : State) (make : ℤ �
 unfolding execute
 made-asked π room c s make a b rest v makes found e = rw (makes-request room c s make makes, found, e)
 
-pub tells : Tells
-tells π room cs s c m at =
+pub sums-exact : Sums
+sums-exact π room cs s c m at =
     let n = number m in
     let key = keyOf c s (of (m .top)) (of (m .next)) missing in
     let k : ℕ → ℕ → Bool → Outcome = λ p r b. provided b overflow (next s p (value (atom n r) ∷ m .rest)) in

@@ -4,13 +4,15 @@ use mathlib.Core.Path.{_≡_}
 use mathlib.Core.Logic.{_≢_, _⊎_}
 use mathlib.Core.Bool.{Bool, true, false, _||_}
 use mathlib.Core.List.{List, [], _∷_, _++_}
+use lib.Dec.{eqb}
+use Rattle.word.specs.Choose.{choose}
 use Rattle.label.specs.Label.{flows}
 use Rattle.program.specs.declared.Command.{Command}
 use Rattle.machine.specs.declared.Kind.{Kind}
 use Rattle.machine.specs.declared.Kind.the-variants.{Number, End}
 use Rattle.machine.specs.Atom.{Atom, Line, endLine}
 use Rattle.machine.specs.Rule.{Ruler}
-use Rattle.machine.specs.State.{stopNumber, start}
+use Rattle.machine.specs.State.{State, Stop, stopNumber, start}
 use Rattle.machine.specs.Run.{Result, run}
 use Rattle.machine.specs.Claim.{view, Start, Refines, Views}
 
@@ -23,6 +25,16 @@ isEnd End = true
 abbrev pub hasEnd : List Line → Bool
 hasEnd [] = false
 hasEnd (l ∷ ls) = isEnd (l .kind) || hasEnd ls
+
+-- what stands after the numbers: at stop 0 the end line, at another stop nothing
+abbrev pub closing : Stop → ℕ → List Line
+closing x p = choose (eqb (stopNumber x) 0) (endLine p ∷ []) []
+
+-- the lines of a run that met a stop are numbers, and then that
+pub record Closes (x : Stop) (s : State) : Type 0 where
+  pub numbers : List Line
+  pub unended : hasEnd numbers ≡ false
+  pub lines : s .lines ≡ numbers ++ closing x (s .pc .label)
 
 -- the last line is an end line, and no other is
 pub record Whole (ls : List Line) : Type 0 where

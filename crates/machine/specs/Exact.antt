@@ -17,17 +17,17 @@ use Rattle.machine.specs.Holds.{Holds}
 
 -- a step of Add or Sub with two values on top. Stop 6 where its rule denies it. Where that allows it, the whole number that it makes of
 -- them stands in their place if it has 64 bits, and it is stop 9 if it has not: no other stop hides that
-pub record Told (π : Policy) (room : ℕ) (cs : List Command) (s : State) (c : Command) (m : Made c s) (v : Verdict) : Type 0 where
+pub record Summing (π : Policy) (room : ℕ) (cs : List Command) (s : State) (c : Command) (m : Made c s) (v : Verdict) : Type 0 where
   pub refused : v ≡ denied → step π room cs s ≡ stopped denial
   pub inside : (p r : ℕ) → v ≡ allowed p r → Signed 64 (number m)
       → step π room cs s ≡ next s p (value (atom (number m) r) ∷ m .rest)
   pub outside : (p r : ℕ) → v ≡ allowed p r → (Signed 64 (number m) → ⊥) → step π room cs s ≡ stopped overflow
 
-abbrev pub Tells : Type 0
-Tells =
+abbrev pub Sums : Type 0
+Sums =
     (π : Policy) (room : ℕ) (cs : List Command) (s : State) (c : Command) (m : Made c s)
     → CommandAt cs (s .pc .number) c
-    → Told π room cs s c m (π (keyOf c s (of (m .top)) (of (m .next)) missing))
+    → Summing π room cs s c m (π (keyOf c s (of (m .top)) (of (m .next)) missing))
 
 -- what a command may bring into a state beside the numbers that are there: its operand, the places that it may go on to, and what Add or
 -- Sub makes of the two values on top
