@@ -55,7 +55,7 @@ pub data Makes : Command → (ℤ → ℤ → ℤ) → Type 0 where
   sum : Makes Add _+ℤ_
   difference : Makes Sub _-ℤ_
 
--- two values on top, and the number that the command makes of them; that this has no 64 bits
+-- two values on top, of which the command makes a number
 pub record Made (c : Command) (s : State) : Type 0 where
   pub make : ℤ → ℤ → ℤ
   pub makes : Makes c make
@@ -64,6 +64,7 @@ pub record Made (c : Command) (s : State) : Type 0 where
   pub rest : List Entry
   pub found : s .stack ≡ value top ∷ value next ∷ rest
 
+-- that number; and that it has no 64 bits
 abbrev pub number : {c : Command} {s : State} → Made c s → ℤ
 number m = m .make (m .top .number) (m .next .number)
 
