@@ -3,7 +3,7 @@
 -- Assumes nothing.
 use mathlib.Core.Path.{_≡_, refl, sym, subst}
 use mathlib.Core.Bool.{Bool, true, false}
-use Prim.Native.Nat.{ℕ, _-_, _^_}
+use Prim.Native.Nat.{ℕ, _+_, _-_, _^_, _≤_}
 use native.Mathlib.Omega.{arith}
 use lib.IntN.{ℤ, pos, negsuc, _+ℤ_, _-ℤ_}
 use lib.Signed.{mag, ltZ}
@@ -14,7 +14,7 @@ use Rattle.word.specs.Wrap.{Signed}
 use Rattle.word.specs.declared.exact.Exact.the-variants.{Number, Outside}
 use Rattle.word.specs.Exact.{isSigned, exactly}
 use Rattle.word.proofs.Signed.{back, back-ok}
-use Rattle.word.proofs.Laws.Parts.{sum-parts, difference-parts, less-parts, least-parts, parts-signed, signed-parts}
+use Rattle.word.proofs.Laws.Parts.{up, down, sum-parts, difference-parts, less-parts, least-parts, parts-signed, signed-parts, Apart}
 
 module _ (k : ℕ) (z : ℤ) where
   pub signed-test : Signed k z → isSigned k z ≡ true
@@ -42,7 +42,7 @@ unfolding exactly
 exactly-outside z h = rw (unsigned-test 64 z h)
 
 -- ════════════════════════════════════════════════════════════════════════════════════════════
--- Sums and differences of two words. By the sign of b only one end can be passed, and the bound that a is compared with is a word
+-- A number s made of two words a and b, found outside by comparing a with a bound t that is a word, too
 -- ════════════════════════════════════════════════════════════════════════════════════════════
 
 -- the least word and the largest
@@ -58,57 +58,24 @@ pub record Tested (s t : ℤ) (beyond : Bool) : Type 0 where
   pub outside : beyond ≡ true → Signed 64 s → ⊥
   pub inside : beyond ≡ false → Signed 64 s
 
-module _ (a b : ℤ) (ha : Signed 64 a) (hb : Signed 64 b) where
-  sum-low : ltZ b (pos 0) ≡ true → Tested (a +ℤ b) (low -ℤ b) (ltZ a (low -ℤ b))
-  sum-low e =
-      let f = difference-parts low b in
-      let g = sum-parts a b in
-      let k = less-parts b (pos 0) e in
-      let u = signed-parts a ha in
-      let v = signed-parts b hb in
+-- a lies as far from t as s from the end that s may pass; from a to s is at most 2^63, downwards or upwards
+module _ (a s t : ℤ) (h : Signed 64 a) where
+  at-low : Apart a t s low → up s + down a ≤ up a + down s → up a + down s ≤ 2 ^ 63 + (up s + down a) → Tested s t (ltZ a t)
+  at-low e near far =
+      let u = signed-parts 64 a h in
       record {
-        fits = parts-signed (low -ℤ b) (omega arith) (omega arith);
-        outside = λ p h. omega (arith, less-parts a (low -ℤ b) p, signed-parts (a +ℤ b) h);
-        inside = λ p. let w = least-parts a (low -ℤ b) p in parts-signed (a +ℤ b) (omega arith) (omega arith);
+        fits = parts-signed 64 t (omega arith) (omega arith);
+        outside = λ p g. omega (arith, less-parts a t p, signed-parts 64 s g);
+        inside = λ p. let w = least-parts a t p in parts-signed 64 s (omega arith) (omega arith);
       }
 
-  sum-high : ltZ b (pos 0) ≡ false → Tested (a +ℤ b) (high -ℤ b) (ltZ (high -ℤ b) a)
-  sum-high e =
-      let f = difference-parts high b in
-      let g = sum-parts a b in
-      let k = least-parts b (pos 0) e in
-      let u = signed-parts a ha in
-      let v = signed-parts b hb in
+  at-high : Apart a t s high → up a + down s ≤ up s + down a → up s + down a ≤ 2 ^ 63 + (up a + down s) → Tested s t (ltZ t a)
+  at-high e near far =
+      let u = signed-parts 64 a h in
       record {
-        fits = parts-signed (high -ℤ b) (omega arith) (omega arith);
-        outside = λ p h. omega (arith, less-parts (high -ℤ b) a p, signed-parts (a +ℤ b) h);
-        inside = λ p. let w = least-parts (high -ℤ b) a p in parts-signed (a +ℤ b) (omega arith) (omega arith);
-      }
-
-  difference-high : ltZ b (pos 0) ≡ true → Tested (a -ℤ b) (high +ℤ b) (ltZ (high +ℤ b) a)
-  difference-high e =
-      let f = sum-parts high b in
-      let g = difference-parts a b in
-      let k = less-parts b (pos 0) e in
-      let u = signed-parts a ha in
-      let v = signed-parts b hb in
-      record {
-        fits = parts-signed (high +ℤ b) (omega arith) (omega arith);
-        outside = λ p h. omega (arith, less-parts (high +ℤ b) a p, signed-parts (a -ℤ b) h);
-        inside = λ p. let w = least-parts (high +ℤ b) a p in parts-signed (a -ℤ b) (omega arith) (omega arith);
-      }
-
-  difference-low : ltZ b (pos 0) ≡ false → Tested (a -ℤ b) (low +ℤ b) (ltZ a (low +ℤ b))
-  difference-low e =
-      let f = sum-parts low b in
-      let g = difference-parts a b in
-      let k = least-parts b (pos 0) e in
-      let u = signed-parts a ha in
-      let v = signed-parts b hb in
-      record {
-        fits = parts-signed (low +ℤ b) (omega arith) (omega arith);
-        outside = λ p h. omega (arith, less-parts a (low +ℤ b) p, signed-parts (a -ℤ b) h);
-        inside = λ p. let w = least-parts a (low +ℤ b) p in parts-signed (a -ℤ b) (omega arith) (omega arith);
+        fits = parts-signed 64 t (omega arith) (omega arith);
+        outside = λ p g. omega (arith, less-parts t a p, signed-parts 64 s g);
+        inside = λ p. let w = least-parts t a p in parts-signed 64 s (omega arith) (omega arith);
       }
 
 -- a number as the code has it, by way of its bits
@@ -127,22 +94,38 @@ module _ {a b : ℤ} (fa : SFits w64 a) (fb : SFits w64 b) where
   pub sum-negative : ltZ (word b) (pos 0) ≡ true
       → Tested (word a +ℤ word b) (low -ℤ word b) (ltZ (word a) (word (low -ℤ word b)))
   sum-negative e =
-      worded _ _ (λ t. ltZ (word a) t) (sum-low (word a) (word b) (word-signed fa) (word-signed fb) e)
+      let f = sum-parts (word a) (word b) in
+      let g = difference-parts low (word b) in
+      let k = less-parts (word b) (pos 0) e in
+      let v = signed-parts 64 (word b) (word-signed fb) in
+      worded _ _ (λ t. ltZ (word a) t) (at-low (word a) _ _ (word-signed fa) (omega arith) (omega arith) (omega arith))
 
   pub sum-natural : ltZ (word b) (pos 0) ≡ false
       → Tested (word a +ℤ word b) (high -ℤ word b) (ltZ (word (high -ℤ word b)) (word a))
   sum-natural e =
-      worded _ _ (λ t. ltZ t (word a)) (sum-high (word a) (word b) (word-signed fa) (word-signed fb) e)
+      let f = sum-parts (word a) (word b) in
+      let g = difference-parts high (word b) in
+      let k = least-parts (word b) (pos 0) e in
+      let v = signed-parts 64 (word b) (word-signed fb) in
+      worded _ _ (λ t. ltZ t (word a)) (at-high (word a) _ _ (word-signed fa) (omega arith) (omega arith) (omega arith))
 
   pub difference-negative : ltZ (word b) (pos 0) ≡ true
       → Tested (word a -ℤ word b) (high +ℤ word b) (ltZ (word (high +ℤ word b)) (word a))
   difference-negative e =
-      worded _ _ (λ t. ltZ t (word a)) (difference-high (word a) (word b) (word-signed fa) (word-signed fb) e)
+      let f = difference-parts (word a) (word b) in
+      let g = sum-parts high (word b) in
+      let k = less-parts (word b) (pos 0) e in
+      let v = signed-parts 64 (word b) (word-signed fb) in
+      worded _ _ (λ t. ltZ t (word a)) (at-high (word a) _ _ (word-signed fa) (omega arith) (omega arith) (omega arith))
 
   pub difference-natural : ltZ (word b) (pos 0) ≡ false
       → Tested (word a -ℤ word b) (low +ℤ word b) (ltZ (word a) (word (low +ℤ word b)))
   difference-natural e =
-      worded _ _ (λ t. ltZ (word a) t) (difference-low (word a) (word b) (word-signed fa) (word-signed fb) e)
+      let f = difference-parts (word a) (word b) in
+      let g = sum-parts low (word b) in
+      let k = least-parts (word b) (pos 0) e in
+      let v = signed-parts 64 (word b) (word-signed fb) in
+      worded _ _ (λ t. ltZ (word a) t) (at-low (word a) _ _ (word-signed fa) (omega arith) (omega arith) (omega arith))
 
   -- what is answered then, of the number that `make` makes of a and b
   module _ (make : ℤ → ℤ → ℤ) {t : ℤ} {beyond : Bool} (x : Tested (make (word a) (word b)) t beyond) where

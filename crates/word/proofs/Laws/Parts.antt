@@ -57,11 +57,15 @@ least-parts (pos a) (negsuc b) e = omega arith
 least-parts (negsuc a) (pos b) e = never (cc)
 least-parts (negsuc a) (negsuc b) e = omega (arith, ltb-false b a e)
 
--- a signed number of 64 bits lies from −2^63 to 2^63 − 1
-pub parts-signed : (z : ℤ) → up z < 2 ^ 63 + down z → down z ≤ 2 ^ 63 + up z → Signed 64 z
-parts-signed (pos n) h g = omega arith
-parts-signed (negsuc n) h g = omega arith
+-- a signed number of k bits lies from −2^(k − 1) to 2^(k − 1) − 1
+pub parts-signed : (k : ℕ) (z : ℤ) → up z < 2 ^ (k - 1) + down z → down z ≤ 2 ^ (k - 1) + up z → Signed k z
+parts-signed k (pos n) h g = omega arith
+parts-signed k (negsuc n) h g = omega arith
 
-pub signed-parts : (z : ℤ) → Signed 64 z → (up z < 2 ^ 63 + down z) × (down z ≤ 2 ^ 63 + up z)
-signed-parts (pos n) h = (omega arith, omega arith)
-signed-parts (negsuc n) h = (omega arith, omega arith)
+pub signed-parts : (k : ℕ) (z : ℤ) → Signed k z → (up z < 2 ^ (k - 1) + down z) × (down z ≤ 2 ^ (k - 1) + up z)
+signed-parts k (pos n) h = (omega arith, omega arith)
+signed-parts k (negsuc n) h = (omega arith, omega arith)
+
+-- a − t is s − e
+abbrev pub Apart : (a t s e : ℤ) → Type 0
+Apart a t s e = up a + down t + (up e + down s) ≡ up t + down a + (up s + down e)
