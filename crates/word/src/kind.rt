@@ -9,7 +9,7 @@ ghost use Rattle.word.specs.Number.{indexOf};
 pub struct Pc(pub i64);
 
 impl Pc {
-    // The command so many further on, or back. From a place of a sheet the sum never wraps.
+    // The command so many further on, or back. From a place of a sheet, by 1 or by a Bnz's operand, the sum never wraps.
     pub fn offset(self, by: i64) -> Pc
         ensures { λ r. ⌜ r .0 ≡ addWrap (self .0) by ⌝ }
     {
