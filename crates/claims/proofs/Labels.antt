@@ -10,7 +10,7 @@ use lib.Dec.{ltb, leb, eqb}
 use borrow.Author.Tests.{lt-ltb, leb-true}
 use Rattle.word.specs.Choose.{choose}
 use Rattle.word.specs.declared.field.Field.the-variants.{Cut}
-use Rattle.word.specs.Field.{bitsAt, whole, unsignedAt, signedAt}
+use Rattle.word.specs.Field.{Bytes, bitsAt, whole, unsignedAt, signedAt}
 use Rattle.word.specs.Wrap.{signed}
 use Rattle.word.proofs.Laws.Field.{bitsAt-lt}
 use Rattle.label.specs.declared.Label.{Label}
@@ -21,7 +21,6 @@ use Rattle.engine.specs.declared.start.Limit.the-variants.{Kept}
 use Rattle.engine.specs.Start.{labelsLimit}
 use Rattle.report.specs.Job.{Heard, silence, withCell, withAllowance, withReader, bad, Reading, reading}
 use Rattle.report.specs.Job.{unsigned, fourAt, cell, allowance, readerSet, itemAt, follow, readFrom, readJob}
-use Rattle.claims.specs.Pages.{Bytes}
 
 -- a word that stores a label
 abbrev Stores : ℤ → Type 0

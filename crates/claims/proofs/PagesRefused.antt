@@ -8,6 +8,7 @@ use Prim.Native.Nat.{ℕ}
 use lib.ListN.{length, take, drop}
 use lib.Seq.{take-length}
 use borrow.Author.Tests.{le-leb, eq-eqb}
+use Rattle.word.specs.Field.{Bytes}
 use Rattle.word.proofs.Bool.{never}
 use Rattle.program.specs.Decode.{Decoded, refused, accepted, decode}
 use Rattle.machine.specs.Claim.{OneStartsOther}
@@ -22,7 +23,7 @@ use Rattle.report.specs.Job.{Heard, Ending, bad, sheet, readJob, sheetFrom, she
 use Rattle.report.specs.Lines.{jobText, refusedText}
 use Rattle.report.specs.Page.{zeros, lentFor, endFor, pageOf}
 use Rattle.report.proofs.Paging.{Few, few}
-use Rattle.claims.specs.Pages.{cellWordsOf, allowanceOf, Fate, answered, fateFrom, fateOf, Says, Read, Bytes}
+use Rattle.claims.specs.Pages.{cellWordsOf, allowanceOf, Fate, answered, fateFrom, fateOf, Says, Read}
 use Rattle.claims.specs.Pages.{Refusals, Whole}
 use Rattle.claims.specs.Pages as Pages
 use Rattle.claims.proofs.PagesPrivate.{pages-private, pages-unrun}

@@ -1,11 +1,12 @@
 -- Demand 3 for pages: what the page of a job tells its reader. This file states it; proofs/PagesPrivate.antt, PagesComplete.antt and
 -- PagesRefused.antt show it.
-use Prim.Native.Nat.{ℕ, _<_, _≤_}
+use Prim.Native.Nat.{ℕ, _≤_}
 use mathlib.Core.Path.{_≡_}
 use mathlib.Core.Logic.{_≢_, _⊎_}
 use mathlib.Core.Bool.{true, false}
 use mathlib.Core.List.{List, [], _++_}
-use lib.ListN.{length, drop, getD}
+use lib.ListN.{length, drop}
+use Rattle.word.specs.Field.{Bytes}
 use Rattle.label.specs.Label.{flows}
 use Rattle.machine.specs.Atom.{Atom, endLine}
 use Rattle.machine.specs.Claim.{Alike, Start, OneStartsOther}
@@ -108,10 +109,6 @@ Printed = (job out : List ℕ) → pageLimit ≤ length out → printedOf (pageA
 -- a job that is not bad: its sheet starts somewhere
 abbrev pub Read : List ℕ → Type 0
 Read job = (start : ℕ) × (readJob job .ending ≡ sheet start)
-
--- its bytes are below 256
-abbrev pub Bytes : List ℕ → Type 0
-Bytes job = (i : ℕ) → getD job i 0 < 256
 
 -- whether a job is run or how it is refused depends on its sheet and its allowance only: of its cells it tells nothing
 abbrev pub Refusals : Type 0

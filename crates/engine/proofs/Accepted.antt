@@ -9,6 +9,7 @@ use lib.IntN.{ℤ, pos, negsuc}
 use lib.ListN.{length}
 use lib.Dec.{ltb}
 use borrow.Author.Tests.{ltb-true, leb-true, eqb-true}
+use Rattle.word.specs.Field.{Bytes}
 use Rattle.word.specs.Lay.{laid}
 use Rattle.word.specs.Wrap.{Signed}
 use Rattle.word.proofs.Bool.{never}
@@ -25,7 +26,7 @@ use Rattle.program.specs.Decode.{Decoded, refused, accepted, decode, commandLim
 use Rattle.program.specs.Space.{programWords}
 use Rattle.program.specs.Encode.{AllWritable}
 use Rattle.program.proofs.Decode.{decode-length}
-use Rattle.program.proofs.Encoding.{Bytes, decode-writable}
+use Rattle.program.proofs.Encoding.{decode-writable}
 use Rattle.program.proofs.Words.{writable-at}
 use Rattle.machine.specs.Rule.{Ruler, rules}
 use Rattle.machine.specs.State.{State, Stop, stopNumber}

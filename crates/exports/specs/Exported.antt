@@ -16,7 +16,9 @@ use Rattle.tagged.specs.Tagged.{Left, tagged}
 use Rattle.exports.specs.declared.result.LuvrodanResult.{LuvrodanResult}
 use Rattle.report.specs.Page.{pageAnswer, pageOut}
 use Rattle.exports.specs.declared.result.LuvrodanPageResult.{LuvrodanPageResult}
-use Rattle.exports.specs.Result.{resultOf, pageResult}
+use Rattle.assembly.specs.Assembly.{Result, answer, left}
+use Rattle.exports.specs.declared.result.LuvrodanWritten.{LuvrodanWritten}
+use Rattle.exports.specs.Result.{resultOf, pageResult, writtenResult}
 use Rattle.exports.specs.Row.{givenRow, leftRow}
 
 -- the result and the lent runs
@@ -87,3 +89,15 @@ pageLeft r page = record { result = r; page = page }
 -- of the job and the lent bytes
 unfoldable pub exportedPage : List ℕ → List ℕ → PageLeft
 exportedPage job page = pageLeft (pageResult (pageAnswer job page)) (pageOut job page)
+
+-- the result and the lent bytes
+pub record WrittenLeft : Type 0 where
+  pub result : LuvrodanWritten
+  pub bytes : List ℕ
+
+abbrev pub writtenLeft : LuvrodanWritten → List ℕ → WrittenLeft
+writtenLeft r bytes = record { result = r; bytes = bytes }
+
+-- of what is to be written, a sheet or a text, and the lent bytes
+unfoldable pub exportedWritten : Result → List ℕ → WrittenLeft
+exportedWritten x bytes = writtenLeft (writtenResult (answer x bytes)) (left x bytes)

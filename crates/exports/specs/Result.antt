@@ -1,4 +1,4 @@
--- The engines' answers as the ten words of `luvrodan_result`.
+-- The engines' answers as the ten words of `luvrodan_result`; the page's, and those of texts and listings.
 use Prim.Native.Nat.{ℕ}
 use lib.IntN.{pos}
 use Rattle.program.specs.declared.Refusal.{Refusal}
@@ -9,7 +9,10 @@ use Rattle.report.specs.declared.Outcome.{Outcome}
 use Rattle.report.specs.declared.Outcome.the-variants as Made
 use Rattle.report.specs.Page.{pageLimit}
 use Rattle.exports.specs.declared.result.LuvrodanResult.{LuvrodanResult}
+use Rattle.assembly.specs.declared.Written.{Written}
+use Rattle.assembly.specs.declared.Written.the-variants as Written
 use Rattle.exports.specs.declared.result.LuvrodanPageResult.{LuvrodanPageResult}
+use Rattle.exports.specs.declared.result.LuvrodanWritten.{LuvrodanWritten}
 
 -- refused: the refusal's number and place, and zeros
 abbrev pub refusedResult : Refusal → LuvrodanResult
@@ -52,3 +55,8 @@ resultOf (Answer.Stopped x) faults kernel = stoppedResult (x .machine) (x .stop)
 abbrev pub pageResult : Outcome → LuvrodanPageResult
 pageResult (Made.Written n) = record { status = 0; length = n }
 pageResult Made.Short = record { status = 1; length = pageLimit }
+
+-- the length of what was written; or the refusal's number and place, and 0
+abbrev pub writtenResult : Written → LuvrodanWritten
+writtenResult (Written.Length n) = record { refusal = 0; position = 0; length = n }
+writtenResult (Written.Refused r) = record { refusal = r .code; position = r .position; length = 0 }

@@ -4,15 +4,17 @@ mod row;
 
 use result::LuvrodanPageResult;
 use result::LuvrodanResult;
+use result::LuvrodanWritten;
 ghost use mathlib.Core.Path.{_≡_};
 ghost use lib.ListN.{length};
+ghost use Rattle.assembly.specs.Assembly.{assembled, listed};
 ghost use Rattle.policy.specs.Read.{readTable};
 ghost use Rattle.handler.specs.Translate.{handlerOf};
 ghost use Rattle.handler.specs.Claim.{Handles};
 ghost use Rattle.step.specs.Lent.{cells, lent};
 ghost use Rattle.engine.specs.Memory.{output, memory};
 ghost use Rattle.exports.specs.Exported.{plainLeft, exportedPlain, taggedLeft, exportedTagged, pageLeft, exportedPage};
-ghost use Rattle.exports.specs.Exported.{ExportedPromises};
+ghost use Rattle.exports.specs.Exported.{ExportedPromises, writtenLeft, exportedWritten};
 
 // A run under the standard rules.
 #[no_mangle]
@@ -118,4 +120,22 @@ pub extern "C" fn luvrodan_page(job: &[u8], page: &mut [u8]) -> LuvrodanPageResu
 {
     let made = report::page(job, page);
     result::of_page(made)
+}
+
+// Reads a text into a sheet.
+#[no_mangle]
+pub extern "C" fn luvrodan_assemble(text: &[u8], sheet: &mut [u8]) -> LuvrodanWritten
+    ensures { λ r. ⌜ writtenLeft r (now (sheet .exit)) ≡ exportedWritten (assembled (now (text .entry))) (now (sheet .entry)) ⌝ }
+{
+    let written = assembly::assemble(text, sheet);
+    result::of_written(written)
+}
+
+// Lists a sheet as a text.
+#[no_mangle]
+pub extern "C" fn luvrodan_list(sheet: &[u8], text: &mut [u8]) -> LuvrodanWritten
+    ensures { λ r. ⌜ writtenLeft r (now (text .exit)) ≡ exportedWritten (listed (now (sheet .entry))) (now (text .entry)) ⌝ }
+{
+    let written = assembly::list(sheet, text);
+    result::of_written(written)
 }

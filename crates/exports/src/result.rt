@@ -1,10 +1,11 @@
-// The engines' answers as ten words, and the page's as two.
+// The engines' answers as ten words, the page's as two, and those of texts and listings as three.
+use assembly::Written;
 use engine::Answer;
 use program::Refusal;
 use report::Outcome;
 use stack::Machine;
 ghost use mathlib.Core.Path.{_≡_};
-ghost use Rattle.exports.specs.Result.{refusedResult, stoppedResult, resultOf, pageResult};
+ghost use Rattle.exports.specs.Result.{refusedResult, stoppedResult, resultOf, pageResult, writtenResult};
 
 // What a run came to: `luvrodan_result` of include/luvrodan.h, field by field in its order.
 #[repr(C)]
@@ -25,6 +26,14 @@ pub struct LuvrodanResult {
 #[repr(C)]
 pub struct LuvrodanPageResult {
     pub status: u64,
+    pub length: u64,
+}
+
+// What a text or a listing came to: `luvrodan_written`.
+#[repr(C)]
+pub struct LuvrodanWritten {
+    pub refusal: u64,
+    pub position: u64,
     pub length: u64,
 }
 
@@ -83,6 +92,23 @@ pub(crate) fn of_page(made: Outcome) -> LuvrodanPageResult
         Outcome::Short => LuvrodanPageResult {
             status: 1,
             length: 30720,
+        },
+    }
+}
+
+pub(crate) fn of_written(written: Written) -> LuvrodanWritten
+    ensures { λ x. ⌜ x ≡ writtenResult written ⌝ }
+{
+    match written {
+        Written::Length(length) => LuvrodanWritten {
+            refusal: 0,
+            position: 0,
+            length: length as u64,
+        },
+        Written::Refused(r) => LuvrodanWritten {
+            refusal: r.code,
+            position: r.position as u64,
+            length: 0,
         },
     }
 }

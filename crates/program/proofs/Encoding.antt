@@ -1,4 +1,5 @@
--- Writing a program as bytes and reading it gives it back; and a program that was read can be written: each operand fits its width.
+-- Writing a program as bytes and reading it gives it back; a program that was read can be written: each operand fits its width; and writing
+-- it gives the bytes that it was read from. What is written are bytes.
 -- Assumes nothing.
 use mathlib.Core.Path.{_≡_, refl, sym, ap, _∙_}
 use mathlib.Core.List.{List, [], _∷_, _++_}
@@ -6,21 +7,27 @@ use mathlib.Core.Option.{Option, none, some}
 use Prim.Native.Nat.{ℕ, zero, suc, _+_, _*_, _<_, _≤_}
 use native.Mathlib.Omega.{arith}
 use lib.IntN.{ℤ}
-use lib.ListN.{length, drop, getD}
-use lib.Seq.{drop-at, getD-drop}
+use lib.ListN.{length, take, drop, getD, set, take-append-drop}
+use lib.Seq.{drop-at, getD-drop, getD-take, length-take-le}
 use Rattle.word.specs.declared.field.Field.{Field}
 use Rattle.word.specs.declared.field.Field.the-variants.{Number, Cut}
 use Rattle.word.specs.Wrap.{Signed, signed}
-use Rattle.word.specs.Field.{signedAt, bitsAt, bytesOf}
-use Rattle.word.proofs.Laws.Wrap.{signed-range}
+use Rattle.word.specs.Digits.{digitsOf}
+use Rattle.word.specs.Field.{Bytes, signedAt, bitsAt, bytesOf}
+use Rattle.word.specs.Text.{putAnswer, putOut}
+use Rattle.word.specs.declared.text.Put.the-variants.{Next}
+use Rattle.word.proofs.Lay.{laidAt-nil, laidAt-cons}
+use Rattle.word.proofs.Laws.Text.{put-room}
+use Rattle.word.proofs.Laws.Digits.{Below, value-digits}
+use Rattle.word.proofs.Laws.Wrap.{signed-range, residue-signed}
 use Rattle.word.proofs.Laws.Field as Field
 use Rattle.program.specs.declared.Command.{Command}
-use Rattle.program.specs.Command.{Opcode, opcodeOf, operandWidth, opcode, operand, command}
+use Rattle.program.specs.Command.{Opcode, opcodeOf, codeOf, operandWidth, opcode, operand, command}
 use Rattle.program.specs.Decode.{First, unknown, cut, whole, firstOperand, firstOpcode, Decoded, refused, accepted, prepend}
 use Rattle.program.specs.Decode.{decodeFirst, decodeFrom, decode, commandLimit}
-use Rattle.program.specs.Encode.{FitsBytes, Writable, AllWritable, encode}
-use Rattle.program.proofs.Codes.{opcodeOf-codeOf, command-whole, opcode-command, operand-command}
-use Rattle.program.proofs.Decode.{commandsOf, signedAt-none, signedAt-empty, signedAt-whole}
+use Rattle.program.specs.Encode.{FitsBytes, Writable, AllWritable, encodeCommand, encode}
+use Rattle.program.proofs.Codes.{opcodeOf-codeOf, codeOf-opcodeOf, code-most, command-whole, opcode-command, operand-command}
+use Rattle.program.proofs.Decode.{commandsOf, decode-length, signedAt-none, signedAt-empty, signedAt-whole}
 
 -- ════════════════════════════════════════════════════════════════════════════════════════════
 -- From commands to bytes and back
@@ -53,12 +60,24 @@ unfolding decode
 decode-encode cs h w = decode-from cs commandLimit 0 h w
 
 -- ════════════════════════════════════════════════════════════════════════════════════════════
--- From bytes to commands that can be written
+-- Commands without an operand's bytes in lent memory
 -- ════════════════════════════════════════════════════════════════════════════════════════════
 
--- the bytes of a slice
-abbrev pub Bytes : List ℕ → Type 0
-Bytes s = (i : ℕ) → getD s i 0 < 256
+pub put-nothing : (at : ℕ) (old : List ℕ) → at ≤ length old → (Next at ≡ putAnswer at [] old) × (old ≡ putOut at [] old)
+put-nothing at old h =
+    let put = put-room at 0 [] old refl (omega arith) in
+    (ap Next (omega arith) ∙ sym (put .0), sym (put .1 ∙ laidAt-nil at old))
+
+pub put-bare : (at x : ℕ) (z : ℤ) (old : List ℕ) → at < length old
+    → (Next (at + 1) ≡ putAnswer at (x ∷ bytesOf 0 z) old) × (set old at x ≡ putOut at (x ∷ bytesOf 0 z) old)
+unfolding bytesOf digitsOf
+put-bare at x z old h =
+    let put = put-room at 1 (x ∷ []) old refl (omega arith) in
+    (sym (put .0), sym (put .1 ∙ laidAt-cons at x [] old h ∙ laidAt-nil (suc at) (set old at x)))
+
+-- ════════════════════════════════════════════════════════════════════════════════════════════
+-- From bytes to commands that can be written
+-- ════════════════════════════════════════════════════════════════════════════════════════════
 
 field-signed : (k : ℕ) (s : List ℕ) (z : ℤ) → 0 < k → Bytes s → signedAt k s 0 ≡ Number z → Signed (8 * k) z
 field-signed k s z p b e =
@@ -114,3 +133,90 @@ decode-writable (suc left) at (b ∷ s) h =
     first-writable (firstOpcode (opcodeOf b) s) at (λ w. decodeFrom left (at + suc w) (drop w s))
     (opcode-first (opcodeOf b) s (bytes-tail b s h))
     (λ w. decode-writable left (at + suc w) (drop w s) (bytes-drop w s (bytes-tail b s h)))
+
+-- ════════════════════════════════════════════════════════════════════════════════════════════
+-- From bytes to commands and back
+-- ════════════════════════════════════════════════════════════════════════════════════════════
+
+-- the bytes of a field are those of the number that it holds
+field-bytes : (k : ℕ) (s : List ℕ) (z : ℤ) → Bytes s → signedAt k s 0 ≡ Number z → bytesOf k z ≡ take k s
+unfolding bytesOf bitsAt digitsOf
+field-bytes zero s z b e = refl
+field-bytes (suc k) s z b e =
+    let h = signedAt-whole (suc k) s 0 z e in
+    let n = bitsAt (suc k) s 0 in
+    let ds = take (suc k) s in
+    let d : z ≡ signed (8 * suc k) n = cc (Field.signedAt-whole (suc k) s 0 h) in
+    let l : length ds ≡ suc k = length-take-le (suc k) s (omega arith) in
+    let below : Below 256 ds = λ i j. rw (getD-take (suc k) s i 0 (rw l at j)) (b i) in
+    rw (d, residue-signed (8 * suc k) n (omega arith) (Field.bitsAt-lt (suc k) s 0 h b)) (rw l at (value-digits 256 ds below))
+
+-- writing the commands that were read gives these bytes
+abbrev Encodes : List ℕ → Decoded → Type 0
+Encodes s (refused r) = Unit {0}
+Encodes s (accepted cs) = encode cs ≡ s
+
+prepend-encodes : (c : Command) (d : Decoded) (s t : List ℕ) → encodeCommand c ++ t ≡ s → Encodes t d → Encodes s (prepend c d)
+unfolding encode
+prepend-encodes c (refused r) s t e h = tt
+prepend-encodes c (accepted cs) s t e h = rw h e
+
+operand-encodes : (o : Opcode) (b : ℕ) (s : List ℕ) (at : ℕ) (rest : ℕ → Decoded) → codeOf o ≡ b → Bytes s
+    → ((w : ℕ) → Encodes (drop w s) (rest w)) → (f : Field) → signedAt (operandWidth o) s 0 ≡ f
+    → Encodes (b ∷ s) (decodeFirst (firstOperand o f) at rest)
+operand-encodes o b s at rest d h g Cut e = tt
+operand-encodes o b s at rest d h g (Number z) e =
+    let w = operandWidth o in
+    prepend-encodes (command o z) (rest w) (b ∷ s) (drop w s)
+    (rw (opcode-command o z, operand-command o z (λ k. signedAt-none s 0 z (rw k at e)), d, field-bytes w s z h e, take-append-drop w s))
+    (g w)
+
+opcode-encodes : (x : Option Opcode) (b : ℕ) (s : List ℕ) (at : ℕ) (rest : ℕ → Decoded) → opcodeOf b ≡ x → Bytes s
+    → ((w : ℕ) → Encodes (drop w s) (rest w)) → Encodes (b ∷ s) (decodeFirst (firstOpcode x s) at rest)
+opcode-encodes none b s at rest e h g = tt
+opcode-encodes (some o) b s at rest e h g =
+    operand-encodes o b s at rest (codeOf-opcodeOf b o e) h g (signedAt (operandWidth o) s 0) refl
+
+decode-encodes : (left at : ℕ) (s : List ℕ) → Bytes s → Encodes s (decodeFrom left at s)
+unfolding decodeFrom encode
+decode-encodes zero at [] h = refl
+decode-encodes zero at (b ∷ s) h = tt
+decode-encodes (suc left) at [] h = refl
+decode-encodes (suc left) at (b ∷ s) h =
+    opcode-encodes (opcodeOf b) b s at (λ w. decodeFrom left (at + suc w) (drop w s)) refl (bytes-tail b s h)
+    (λ w. decode-encodes left (at + suc w) (drop w s) (bytes-drop w s (bytes-tail b s h)))
+
+-- reading bytes and writing the commands gives the bytes
+pub encode-decode : (s : List ℕ) (cs : List Command) → Bytes s → decode s ≡ accepted cs → encode cs ≡ s
+unfolding decode
+encode-decode s cs b e = rw e at (decode-encodes commandLimit 0 s b)
+
+-- what was read can be written, and is not too long
+pub decoded-writable : (s : List ℕ) (cs : List Command) → Bytes s → decode s ≡ accepted cs → (length cs ≤ commandLimit) × AllWritable cs
+unfolding decode
+decoded-writable s cs b e =
+    (rw e at (decode-length commandLimit 0 s), rw e at (decode-writable commandLimit 0 s b))
+
+-- ════════════════════════════════════════════════════════════════════════════════════════════
+-- What is written are bytes
+-- ════════════════════════════════════════════════════════════════════════════════════════════
+
+below-bytes : (s : List ℕ) → Below 256 s → Bytes s
+below-bytes [] f i = omega arith
+below-bytes (b ∷ s) f zero = f 0 (omega arith)
+below-bytes (b ∷ s) f (suc i) = below-bytes s (λ j h. f (suc j) (omega arith)) i
+
+append-bytes : (s t : List ℕ) → Bytes s → Bytes t → Bytes (s ++ t)
+append-bytes [] t f g i = g i
+append-bytes (b ∷ s) t f g zero = f 0
+append-bytes (b ∷ s) t f g (suc i) = append-bytes s t (bytes-tail b s f) g i
+
+command-bytes : (c : Command) → Bytes (encodeCommand c)
+command-bytes c zero = omega (arith, code-most (opcode c))
+command-bytes c (suc i) =
+    below-bytes (bytesOf (operandWidth (opcode c)) (operand c)) (Field.bytes-lt (operandWidth (opcode c)) (operand c)) i
+
+pub encode-bytes : (cs : List Command) → Bytes (encode cs)
+unfolding encode
+encode-bytes [] i = omega arith
+encode-bytes (c ∷ cs) i = append-bytes (encodeCommand c) (encode cs) (command-bytes c) (encode-bytes cs) i

@@ -1,4 +1,7 @@
 pub mod Codes
+pub mod Naming
+pub mod Spelling
+pub mod Ranges
 pub mod Decode
 pub mod Fetching
 pub mod Checking

@@ -1,11 +1,12 @@
 -- The commands of document 01: its table of them, and how a command is put together from its opcode and its operand.
-use Prim.Native.Nat.{ℕ, zero, suc}
+use Prim.Native.Nat.{ℕ, zero, suc, _*_}
 use Prim.Native.String.{String}
 use mathlib.Core.Bool.{Bool, true, false}
 use mathlib.Core.List.{List, [], _∷_}
 use mathlib.Core.Option.{Option, none}
 use lib.IntN.{ℤ, pos}
 use lib.ListN.{getElem?}
+use Rattle.word.specs.Exact.{isSigned}
 use Rattle.word.specs.Text.{ascii}
 use Rattle.program.specs.declared.Command.{Command}
 use Rattle.program.specs.declared.Command.the-variants.{Add, Sub, Pop, Output, Push, Load, Store, Jump, Bnz, Call, Ret}
@@ -58,6 +59,14 @@ codeOf o = description o .code
 -- how many bytes the operand has
 abbrev pub operandWidth : Opcode → ℕ
 operandWidth o = description o .width
+
+abbrev pub holds : ℕ → ℤ → Bool
+holds zero z = false
+holds (suc k) z = isSigned (8 * suc k) z
+
+-- is a number in the range of the operand? All that the operand's bytes hold is; nothing is where there is no operand
+abbrev pub inRange : Opcode → ℤ → Bool
+inRange o z = holds (operandWidth o) z
 
 -- how many inputs a command supplies: L1 up to that one may be named
 abbrev pub supplies : Opcode → ℕ

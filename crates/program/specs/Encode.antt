@@ -2,11 +2,12 @@
 use Prim.Native.Nat.{ℕ, zero, suc, _*_}
 use mathlib.Core.Path.{_≡_}
 use mathlib.Core.List.{List, [], _∷_, _++_}
+use mathlib.Core.Option.{Option, none, some}
 use lib.IntN.{ℤ, pos}
 use Rattle.word.specs.Field.{bytesOf}
 use Rattle.word.specs.Wrap.{Signed}
 use Rattle.program.specs.declared.Command.{Command}
-use Rattle.program.specs.Command.{opcode, operand, codeOf, operandWidth}
+use Rattle.program.specs.Command.{Opcode, opcode, operand, codeOf, operandWidth}
 
 -- a number that so many bytes hold; no bytes hold 0 only
 abbrev pub FitsBytes : ℕ → ℤ → Type 0
@@ -21,9 +22,18 @@ abbrev pub AllWritable : List Command → Type 0
 AllWritable [] = Unit {0}
 AllWritable (c ∷ cs) = Writable c × AllWritable cs
 
+-- an opcode's code and its operand's bytes
+abbrev pub encodeOpcode : Opcode → ℤ → List ℕ
+encodeOpcode o z = codeOf o ∷ bytesOf (operandWidth o) z
+
 abbrev pub encodeCommand : Command → List ℕ
-encodeCommand c = codeOf (opcode c) ∷ bytesOf (operandWidth (opcode c)) (operand c)
+encodeCommand c = encodeOpcode (opcode c) (operand c)
 
 unfoldable pub encode : List Command → List ℕ
 encode [] = []
 encode (c ∷ cs) = encodeCommand c ++ encode cs
+
+-- what a code stands for with an operand; no bytes where it stands for nothing
+abbrev pub encodeCode : Option Opcode → ℤ → List ℕ
+encodeCode none z = []
+encodeCode (some o) z = encodeOpcode o z

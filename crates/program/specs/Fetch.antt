@@ -1,7 +1,9 @@
 -- What the code reads of the table of commands, and of one command at a position.
 use Prim.Native.Nat.{ℕ, _+_}
+use mathlib.Core.Bool.{Bool, false}
 use mathlib.Core.List.{List}
 use mathlib.Core.Option.{Option, none, some}
+use lib.IntN.{ℤ}
 use lib.ListN.{getD}
 use Rattle.word.specs.declared.field.Field.{Field}
 use Rattle.word.specs.declared.field.Field.the-variants as Field
@@ -10,12 +12,17 @@ use Rattle.program.specs.declared.Shape.{Shape}
 use Rattle.program.specs.declared.Shape.the-variants as Shape
 use Rattle.program.specs.declared.Fetched.{Fetched}
 use Rattle.program.specs.declared.Fetched.the-variants.{Is, Unknown, Cut}
-use Rattle.program.specs.Command.{Opcode, opcodeOf, operandWidth, supplies, hasResult}
+use Rattle.program.specs.Command.{Opcode, opcodeOf, operandWidth, inRange, supplies, hasResult}
 
 -- what the table says of an opcode: the operand's bytes, the inputs, whether there is a result
 abbrev pub shapeOf : Option Opcode → Shape
 shapeOf none = Shape.Unknown
 shapeOf (some o) = Shape.Of (operandWidth o) (supplies o) (hasResult o)
+
+-- is a number in the range of what a code stands for?
+abbrev pub takesOf : Option Opcode → ℤ → Bool
+takesOf none z = false
+takesOf (some o) z = inRange o z
 
 abbrev pub fetchField : Field → ℕ → Fetched
 fetchField Field.Cut next = Cut

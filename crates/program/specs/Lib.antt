@@ -1,4 +1,5 @@
 pub mod Command
+pub mod Name
 pub mod Decode
 pub mod Encode
 pub mod Space

@@ -1,14 +1,19 @@
 // Programs (document 01: sheets). Read in specs/: Command, Decode, Space; Encode for the way back.
 pub mod code;
+pub mod names;
 
 ghost use mathlib.Core.Path.{_≡_};
 ghost use Prim.Native.Nat.{_<_};
 ghost use lib.ListN.{length};
 ghost use Rattle.program.specs.Decode.{decode, checkAnswer};
 ghost use Rattle.program.specs.Command.{opcodeOf};
-ghost use Rattle.program.specs.Fetch.{shapeOf, fetchField, fetchOf};
+ghost use Rattle.word.specs.Text.{putAnswer, putOut};
+ghost use Rattle.program.specs.Encode.{encodeCode};
+ghost use Rattle.program.specs.Fetch.{shapeOf, takesOf, fetchField, fetchOf};
+ghost use Rattle.program.specs.Name.{nameOf, codeNamed};
 ghost use Rattle.program.specs.Space.{writeSpace};
 use word::field::Field;
+use word::text::Put;
 
 // A command of document 01, with its operand where it has one: what the definitions speak of.
 pub enum Command {
@@ -37,14 +42,20 @@ pub enum Checked {
     Refused(Refusal),
 }
 
+// A command's name as a word: its letters as digits in base 256, the first the highest; and how many letters it has.
+pub struct Name {
+    pub word: u64,
+    pub length: usize,
+}
+
 // What the table of commands says of a code: how many bytes the operand has, how many inputs are supplied, whether there is a result.
 pub enum Shape {
     Of(usize, usize, bool),
     Unknown,
 }
 
-// The command at a position: its operand and the position after it.
-enum Fetched {
+// The command at a position: its operand, or 0, and the position after it; or that it is unknown, or cut.
+pub enum Fetched {
     Is(i64, usize),
     Unknown,
     Cut,
@@ -70,6 +81,101 @@ pub fn shape_of(code: u64) -> Shape
     }
 }
 
+// The name that the table gives a code; 0, with no letters, where there is none.
+pub fn name_of(code: u64) -> Name
+    ensures { λ r. ⌜ r ≡ nameOf (opcodeOf code) ⌝ }
+{
+    match code {
+        code::ADD => Name {
+            word: names::ADD,
+            length: 3,
+        },
+        code::SUB => Name {
+            word: names::SUB,
+            length: 3,
+        },
+        code::POP => Name {
+            word: names::POP,
+            length: 3,
+        },
+        code::OUTPUT => Name {
+            word: names::OUTPUT,
+            length: 6,
+        },
+        code::PUSH => Name {
+            word: names::PUSH,
+            length: 4,
+        },
+        code::LOAD => Name {
+            word: names::LOAD,
+            length: 4,
+        },
+        code::STORE => Name {
+            word: names::STORE,
+            length: 5,
+        },
+        code::JUMP => Name {
+            word: names::JUMP,
+            length: 4,
+        },
+        code::BNZ => Name {
+            word: names::BNZ,
+            length: 3,
+        },
+        code::CALL => Name {
+            word: names::CALL,
+            length: 4,
+        },
+        code::RET => Name {
+            word: names::RET,
+            length: 3,
+        },
+        _ => Name { word: 0, length: 0 },
+    }
+}
+
+// The code of a name's word; 0 where no command has that name.
+pub fn code_of(word: u64) -> u64
+    ensures { λ r. ⌜ r ≡ codeNamed word ⌝ }
+{
+    match word {
+        names::ADD => code::ADD,
+        names::SUB => code::SUB,
+        names::POP => code::POP,
+        names::OUTPUT => code::OUTPUT,
+        names::PUSH => code::PUSH,
+        names::LOAD => code::LOAD,
+        names::STORE => code::STORE,
+        names::JUMP => code::JUMP,
+        names::BNZ => code::BNZ,
+        names::CALL => code::CALL,
+        names::RET => code::RET,
+        _ => 0,
+    }
+}
+
+// Is a number in the range of a code's operand? No number is where there is no operand.
+pub fn takes(code: u64, number: i64) -> bool
+    ensures { λ r. ⌜ r ≡ takesOf (opcodeOf code) number ⌝ }
+{
+    let shape = shape_of(code);
+    match shape {
+        Shape::Unknown => false,
+        Shape::Of(width, _, _) => {
+            if width == 8 {
+                return true;
+            }
+            if width == 2 {
+                if number < -32768 {
+                    return false;
+                }
+                return number < 32768;
+            }
+            false
+        }
+    }
+}
+
 // A field read as an operand that ends at `next`.
 fn with_field(field: Field, next: usize) -> Fetched
     ensures { λ r. ⌜ r ≡ fetchField field next ⌝ }
@@ -77,6 +183,17 @@ fn with_field(field: Field, next: usize) -> Fetched
     match field {
         Field::Number(z) => Fetched::Is(z, next),
         Field::Cut => Fetched::Cut,
+    }
+}
+
+// The command at a position; beyond the end it is unknown.
+pub fn command_at(bytes: &[u8], at: usize) -> Fetched
+    ensures { λ r. ⌜ r ≡ fetchOf (now (bytes .entry)) at ⌝ }
+{
+    if at < bytes.len() {
+        fetch(bytes, at)
+    } else {
+        Fetched::Unknown
     }
 }
 
@@ -97,6 +214,39 @@ fn fetch(bytes: &[u8], at: usize) -> Fetched
                 return with_field(word::field::i16_at(bytes, next), next + 2);
             }
             Fetched::Is(0, next)
+        }
+    }
+}
+
+// Writes a command as bytes, if there is room: its code and its operand, which is cut to its lowest bits where its bytes do not hold
+// it. An unknown code is no command and has no bytes.
+pub fn put(code: u64, operand: i64, out: &mut [u8], at: usize) -> Put
+    ensures answer { λ r. ⌜ r ≡ putAnswer at (encodeCode (opcodeOf code) operand) (now (out .entry)) ⌝ }
+    ensures written { λ r. ⌜ now (out .exit) ≡ putOut at (encodeCode (opcodeOf code) operand) (now (out .entry)) ⌝ }
+{
+    let shape = shape_of(code);
+    match shape {
+        Shape::Unknown => {
+            if out.len() < at {
+                return Put::NoRoom;
+            }
+            Put::Next(at)
+        }
+        Shape::Of(width, _, _) => {
+            if out.len() <= at {
+                return Put::NoRoom;
+            }
+            if out.len() - at <= width {
+                return Put::NoRoom;
+            }
+            out[at] = code as u8;
+            if width == 8 {
+                return word::field::put_i64(operand, out, at + 1);
+            }
+            if width == 2 {
+                return word::field::put_i16(operand, out, at + 1);
+            }
+            Put::Next(at + 1)
         }
     }
 }

@@ -12,9 +12,9 @@ use lib.Dec.{T, leb}
 use mir.Syntax.{w32}
 use mir.Val.{Fits}
 use borrow.Author.Tests.{leb-true, ne-eqb}
-use Rattle.word.specs.Field.{bitsAt, whole, unsignedAt, signedAt}
+use Rattle.word.specs.Field.{Bytes, bitsAt, whole, unsignedAt, signedAt}
 use Rattle.word.specs.declared.field.Field.the-variants.{Number}
-use Rattle.word.proofs.Laws.Field.{Bytes, bitsAt-lt}
+use Rattle.word.proofs.Laws.Field.{bitsAt-lt}
 use Rattle.report.specs.declared.job.Item.the-variants.{Sheet, Bad}
 use Rattle.report.specs.Job.{fourAt, cell, allowance, readerSet, itemAt}
 

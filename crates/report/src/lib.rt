@@ -117,13 +117,7 @@ pub fn printed(made: Outcome, out: &[u8]) -> &[u8]
     ensures { λ r. ⌜ now r ≡ printedOf made (now (out .entry)) ⌝ }
 {
     match made {
-        Outcome::Written(length) => {
-            if length <= out.len() {
-                &out[..length]
-            } else {
-                out
-            }
-        }
+        Outcome::Written(length) => word::part::first(out, length),
         Outcome::Short => &out[..0],
     }
 }

@@ -8,6 +8,7 @@ use Prim.Native.Nat.{ℕ, _*_, _≤_}
 use lib.IntN.{ℤ}
 use lib.ListN.{length}
 use borrow.Author.Tests.{leb-true}
+use Rattle.word.specs.Field.{Bytes}
 use Rattle.word.specs.Lay.{laid}
 use Rattle.word.proofs.Bool.{never}
 use Rattle.program.specs.declared.Command.{Command}
@@ -15,7 +16,6 @@ use Rattle.program.specs.declared.Refusal.{Refusal}
 use Rattle.program.specs.declared.Checked.the-variants as Checked
 use Rattle.program.specs.Decode.{Decoded, refused, accepted, checkAnswer}
 use Rattle.program.specs.Space.{programWords}
-use Rattle.program.proofs.Encoding.{Bytes}
 use Rattle.stack.specs.Words.{started}
 use Rattle.engine.specs.declared.Answer.the-variants as Answer
 use Rattle.engine.specs.declared.start.Limit.the-variants.{Kept}

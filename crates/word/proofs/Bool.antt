@@ -28,6 +28,15 @@ pub and-intro : (a b : Bool) → T a → T b → T (a && b)
 and-intro true b s t = t
 and-intro false b s t = s
 
+-- both hold where they hold together
+pub and-first : (a b : Bool) → (a && b) ≡ true → a ≡ true
+and-first true b e = refl
+and-first false b e = e
+
+pub and-second : (a b : Bool) → (a && b) ≡ true → b ≡ true
+and-second true b e = e
+and-second false b e = never (cc)
+
 pub and-exchange : (a b c d : Bool) → ((a && b) && (c && d)) ≡ ((a && c) && (b && d))
 and-exchange true true c d = refl
 and-exchange true false true d = refl

@@ -9,4 +9,5 @@ pub mod Word
 pub mod Field
 pub mod Numeral
 pub mod Text
+pub mod Reading
 pub mod Decimal

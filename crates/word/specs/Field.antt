@@ -1,14 +1,18 @@
 -- Fields of fixed width in a run of bytes: little-endian, signed ones in two's complement.
-use Prim.Native.Nat.{ℕ, _+_, _*_}
+use Prim.Native.Nat.{ℕ, _+_, _*_, _<_}
 use mathlib.Core.Bool.{Bool, true, false}
 use mathlib.Core.List.{List}
 use lib.IntN.{ℤ, pos}
-use lib.ListN.{length, take, drop}
+use lib.ListN.{length, take, drop, getD}
 use lib.Dec.{leb}
 use Rattle.word.specs.Wrap.{residue, signed}
 use Rattle.word.specs.Digits.{digitsOf, valueOf}
 use Rattle.word.specs.declared.field.Field.{Field}
 use Rattle.word.specs.declared.field.Field.the-variants.{Number, Cut}
+
+-- a run of bytes, as a slice's rule says it
+abbrev pub Bytes : List ℕ → Type 0
+Bytes s = (i : ℕ) → getD s i 0 < 256
 
 -- the little-endian number in the k bytes from a position on
 unfoldable pub bitsAt : ℕ → List ℕ → ℕ → ℕ

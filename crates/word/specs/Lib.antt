@@ -6,3 +6,4 @@ pub mod Number
 pub mod Digits
 pub mod Field
 pub mod Text
+pub mod Numeral

@@ -1,10 +1,15 @@
 // Fields of fixed width in a run of bytes: the operands on sheets, the numbers of a job. Read specs/Field.antt first.
 use crate::part::within;
+use crate::text::Put;
 use crate::wrap::complement;
+use crate::wrap::to_bits;
 ghost use mathlib.Core.Path.{_≡_};
 ghost use Prim.Native.Nat.{_+_, _<_, _≤_};
 ghost use lib.ListN.{length};
-ghost use Rattle.word.specs.Field.{bitsAt, unsignedAt, signedAt};
+ghost use Rattle.word.specs.Digits.{digitsOf};
+ghost use Rattle.word.specs.Field.{bitsAt, unsignedAt, signedAt, bytesOf};
+ghost use Rattle.word.specs.Lay.{laidAt};
+ghost use Rattle.word.specs.Text.{putAnswer, putOut};
 
 // A field's number, or that it is cut: fewer bytes are left than it has.
 pub enum Field {
@@ -76,4 +81,46 @@ fn bits(s: &[u8], at: usize, width: usize) -> u64
         number = number * 256 + byte;
     }
     number
+}
+
+// Writes a number as two bytes, low byte first, if there is room; a number that they do not hold is cut to its lowest bits.
+pub fn put_i16(number: i64, out: &mut [u8], at: usize) -> Put
+    ensures answer { λ r. ⌜ r ≡ putAnswer at (bytesOf 2 number) (now (out .entry)) ⌝ }
+    ensures written { λ r. ⌜ now (out .exit) ≡ putOut at (bytesOf 2 number) (now (out .entry)) ⌝ }
+{
+    put_bytes(to_bits(number), 2, out, at)
+}
+
+// As eight bytes.
+pub fn put_i64(number: i64, out: &mut [u8], at: usize) -> Put
+    ensures answer { λ r. ⌜ r ≡ putAnswer at (bytesOf 8 number) (now (out .entry)) ⌝ }
+    ensures written { λ r. ⌜ now (out .exit) ≡ putOut at (bytesOf 8 number) (now (out .entry)) ⌝ }
+{
+    put_bytes(to_bits(number), 8, out, at)
+}
+
+// The lowest bytes of some bits, if there is room.
+fn put_bytes(bits: u64, width: usize, out: &mut [u8], at: usize) -> Put
+    ensures answer { λ r. ⌜ r ≡ putAnswer at (digitsOf 256 width bits) (now (out .entry)) ⌝ }
+    ensures written { λ r. ⌜ now (out .exit) ≡ putOut at (digitsOf 256 width bits) (now (out .entry)) ⌝ }
+{
+    if within(out.len(), at, width) {
+        lay_bytes(bits, width, out, at);
+        Put::Next(at + width)
+    } else {
+        Put::NoRoom
+    }
+}
+
+fn lay_bytes(bits: u64, width: usize, out: &mut [u8], at: usize)
+    requires { ⌜ at + width ≤ length (now out) ⌝ }
+    ensures { λ _. ⌜ now (out .exit) ≡ laidAt at (digitsOf 256 width bits) (now (out .entry)) ⌝ }
+{
+    let mut rest = bits;
+    let mut i: usize = 0;
+    while i < width {
+        out[at + i] = (rest % 256) as u8;
+        rest = rest / 256;
+        i += 1;
+    }
 }

@@ -4,6 +4,7 @@ pub mod field;
 pub mod kind;
 pub mod memory;
 pub mod number;
-mod part;
+pub mod numeral;
+pub mod part;
 pub mod text;
 pub mod wrap;

@@ -32,6 +32,14 @@ pub fn put_decimal(n: i64, out: &mut [u8], at: usize) -> Put
     }
 }
 
+// How many characters a number in decimal has.
+pub fn decimal_length(n: i64) -> usize
+    ensures { λ r. ⌜ r ≡ length (decimal n) ⌝ }
+{
+    let count = digit_count(magnitude(n));
+    if n < 0 { count + 1 } else { count }
+}
+
 // A number that has no sign in decimal, as a page has a place.
 pub fn put_natural(n: u64, out: &mut [u8], at: usize) -> Put
     ensures answer { λ r. ⌜ r ≡ putAnswer at (natural n) (now (out .entry)) ⌝ }
@@ -95,15 +103,18 @@ fn magnitude(n: i64) -> u64
     if n < 0 { (-1 - n) as u64 + 1 } else { n as u64 }
 }
 
-// How many decimal digits a number has: one at least, and at most the 20 of 2^64 - 1.
+// How many decimal digits a number has: one at least, and at most the 20 of 2^64 - 1. Compared and not divided: that is sooner done.
 fn digit_count(n: u64) -> usize
     ensures { λ r. ⌜ r ≡ digitCount 10 19 n ⌝ }
 {
-    let mut count = 1;
-    let mut rest = n;
-    while 10 <= rest {
-        rest = rest / 10;
+    let mut count: usize = 1;
+    let mut limit: u64 = 10;
+    while count < 19 {
+        if n < limit {
+            return count;
+        }
+        limit = limit * 10;
         count += 1;
     }
-    count
+    if n < limit { 19 } else { 20 }
 }

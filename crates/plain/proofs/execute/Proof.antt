@@ -6,10 +6,10 @@ use Prim.Native.Nat.{ℕ}
 use mathlib.Core.List.{List}
 use lib.ListN.{length}
 use denote.Ref.{now}
+use Rattle.word.specs.Field.{Bytes}
 use Rattle.program.specs.declared.Command.{Command}
 use Rattle.program.specs.declared.Checked.the-variants as Checked
 use Rattle.program.specs.Decode.{accepted, checkAnswer}
-use Rattle.program.proofs.Encoding.{Bytes}
 use Rattle.program.proofs.Loading.{written-accepted}
 use Rattle.machine.specs.Rule.{standard, fixed}
 use Rattle.machine.proofs.Holds.{standard-range}

@@ -7,9 +7,9 @@ use Prim.Native.Nat.{ℕ, _≤_}
 use denote.Ref.{now}
 use lib.IntN.{ℤ}
 use lib.ListN.{length}
+use Rattle.word.specs.Field.{Bytes}
 use Rattle.program.specs.declared.Command.{Command}
 use Rattle.program.specs.Decode.{Decoded, accepted, checkAnswer}
-use Rattle.program.proofs.Encoding.{Bytes}
 use Rattle.program.proofs.Loading.{written-accepted}
 use Rattle.stack.specs.Words.{started}
 use Rattle.step.specs.Lent.{cells, lent}

@@ -2,8 +2,8 @@
 -- Assumes nothing.
 use mathlib.Core.Path.{_≡_, refl, ap}
 use mathlib.Core.List.{List, [], _∷_}
-use Prim.Native.Nat.{ℕ, zero, suc, _*_, _/_, _^_, _<_}
-use native.Mathlib.Nat.{mod-lt, pow-zero, pow-suc, pow-succ', mul-comm, add-comm, mod-add-div', div-lt-iff-lt-mul}
+use Prim.Native.Nat.{ℕ, zero, suc, _+_, _*_, _/_, _%_, _^_, _<_}
+use native.Mathlib.Nat.{one-le-pow, mod-lt, pow-zero, pow-suc, pow-succ', mul-comm, add-comm, mod-add-div', div-lt-iff-lt-mul}
 use native.Mathlib.Omega.{arith}
 use lib.Arith as Arith
 use lib.ListN.{length, getD}
@@ -64,3 +64,16 @@ value-digits b (d ∷ ds) f =
     let h = below-head b d ds f in
     rw (add-comm d (valueOf b ds * b), Arith.digits-mod (valueOf b ds) h, Arith.digits-div (valueOf b ds) h)
     (ap (λ (l : List ℕ). d ∷ l) (value-digits b ds (below-tail b d ds f)))
+
+pow-pos-base : (b k : ℕ) → 0 < b → 0 < b ^ k
+pow-pos-base b k p = one-le-pow k b p
+
+-- the lowest k digits are those of the remainder modulo b^k
+pub digits-low : (b k n : ℕ) → 0 < b → digitsOf b k (n % b ^ k) ≡ digitsOf b k n
+unfolding digitsOf
+digits-low b zero n p = refl
+digits-low b (suc k) n p =
+    let q = n / b % b ^ k in
+    let e : n % b ^ suc k ≡ q * b + n % b = rw (pow-suc b k) (Arith.mod-mul n (pow-pos-base b k p) p) in
+    let h = mod-lt n p in
+    rw (e, Arith.digits-mod q h, Arith.digits-div q h) (ap (λ (l : List ℕ). n % b ∷ l) (digits-low b k (n / b) p))

@@ -2,7 +2,7 @@
 -- Assumes nothing.
 use mathlib.Core.Path.{_≡_, refl, sym, ap, _∙_}
 use mathlib.Core.List.{List, _++_, append-assoc}
-use Prim.Native.Nat.{ℕ, zero, suc, _+_, _*_, _-_, _^_, _<_, _≤_}
+use Prim.Native.Nat.{ℕ, zero, suc, _+_, _*_, _-_, _%_, _^_, _<_, _≤_}
 use native.Mathlib.Nat.{pow-suc, mul-suc, mod-eq-of-lt, add-comm}
 use native.Mathlib.Omega.{arith}
 use lib.IntN.{ℤ, pos}
@@ -11,19 +11,15 @@ use lib.ListN.{length, getD, take, drop, length-append, length-drop}
 use lib.Seq.{drop-cons, take-append-seam, drop-append-seam, length-take-le, getD-take, getD-drop}
 use borrow.Author.Tests.{le-leb, lt-leb}
 use Rattle.word.specs.Wrap.{Signed, residue, signed}
-use Rattle.word.specs.Digits.{valueOf}
-use Rattle.word.specs.Field.{bitsAt, unsignedAt, signedAt, bytesOf}
+use Rattle.word.specs.Digits.{valueOf, digitsOf}
+use Rattle.word.specs.Field.{Bytes, bitsAt, unsignedAt, signedAt, bytesOf}
 use Rattle.word.specs.declared.field.Field.the-variants.{Number, Cut}
-use Rattle.word.proofs.Laws.Digits.{Below, valueOf-lt, digits-length, digits-lt, digits-value}
-use Rattle.word.proofs.Laws.Wrap.{residue-lt, signed-residue}
+use Rattle.word.proofs.Laws.Digits.{Below, valueOf-lt, digits-length, digits-lt, digits-value, digits-low}
+use Rattle.word.proofs.Laws.Wrap.{residue-lt, residue-low, signed-residue}
 
 pub pow-bytes : (k : ℕ) → 256 ^ k ≡ 2 ^ (8 * k)
 pow-bytes zero = refl
 pow-bytes (suc k) = pow-suc 256 k ∙ rw (pow-bytes k, mul-suc 8 k) (sym (pow-add 2 (8 * k) 8))
-
--- a run of bytes, as a slice's rule says it
-abbrev pub Bytes : List ℕ → Type 0
-Bytes s = (i : ℕ) → getD s i 0 < 256
 
 -- ════════════════════════════════════════════════════════════════════════════════════════════
 -- The number in the k bytes from a position on
@@ -101,6 +97,13 @@ module _ (k : ℕ) (s : List ℕ) (at : ℕ) where
 pub bytes-length : (k : ℕ) (z : ℤ) → length (bytesOf k z) ≡ k
 unfolding bytesOf
 bytes-length k z = digits-length 256 k (residue (8 * k) z)
+
+-- they are the lowest bytes of the word
+pub bytes-low : (j k : ℕ) (z : ℤ) → j + 8 * k ≡ 64 → digitsOf 256 k (residue 64 z) ≡ bytesOf k z
+unfolding bytesOf
+bytes-low j k z e =
+    sym (digits-low 256 k (residue 64 z) (omega arith))
+    ∙ rw (pow-bytes k) (ap (digitsOf 256 k) (ap (λ (n : ℕ). residue n z % 2 ^ (8 * k)) (sym e) ∙ residue-low j (8 * k) z))
 
 pub bytes-lt : (k : ℕ) (z : ℤ) → Below 256 (bytesOf k z)
 unfolding bytesOf

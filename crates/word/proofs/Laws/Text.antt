@@ -3,8 +3,8 @@
 use mathlib.Core.Path.{_≡_, refl, sym, ap, _∙_}
 use mathlib.Core.Bool.{Bool, true, false}
 use mathlib.Core.List.{List, _∷_}
-use Prim.Native.Nat.{ℕ, suc, _+_, _-_, _/_, _%_, _^_, _<_, _≤_}
-use native.Mathlib.Nat.{pow-le-pow-right}
+use Prim.Native.Nat.{ℕ, suc, _+_, _-_, _*_, _/_, _%_, _^_, _<_, _≤_}
+use native.Mathlib.Nat.{pow-suc, pow-le-pow-right}
 use native.Mathlib.Numerals.{add-one}
 use native.Mathlib.Omega.{arith}
 use lib.IntN.{ℤ, pos, negsuc, natAbs}
@@ -12,12 +12,13 @@ use lib.Signed.{ltZ}
 use lib.ListN.{length, set, length-set}
 use lib.Dec.{ltb}
 use borrow.Author.Tests.{ltb-true, ltb-false, le-leb, lt-leb}
+use Rattle.word.specs.Digits.{digitsOf}
 use Rattle.word.specs.Lay.{laidAt}
 use Rattle.word.specs.Text.{digitChar, numeral, digitCount, natural, decimal, putAnswer, putOut}
 use Rattle.word.specs.declared.text.Put.the-variants.{Next, NoRoom}
 use Rattle.word.proofs.Lay.{laidAt-nil, laidAt-cons, laidAt-snoc}
-use Rattle.word.proofs.Laws.Digits.{digits-shift}
-use Rattle.word.proofs.Laws.Numeral.{numeral-none, numeral-snoc, numeral-length, digitCount-few, digitCount-more}
+use Rattle.word.proofs.Laws.Numeral.{numeral-none, numeral-snoc, numeral-length}
+use Rattle.word.proofs.Laws.Numeral.{digitCount-pos, digitCount-suffices, digitCount-within}
 
 -- ════════════════════════════════════════════════════════════════════════════════════════════
 -- Writing a numeral from its lowest digit on
@@ -42,41 +43,68 @@ numeral-stored b i n at old x p h e =
     rw e (numeral-store b (i - 1) n at old (omega arith) ∙ ap (λ (j : ℕ). laidAt at (numeral b j n) old) f)
 
 -- ════════════════════════════════════════════════════════════════════════════════════════════
--- Counting digits by division
+-- Writing digits as bytes, the lowest first
 -- ════════════════════════════════════════════════════════════════════════════════════════════
 
--- counting by division: so many digits are counted of n, and the rest has the others
-abbrev pub Counted : ℕ → ℕ → ℕ → Type 0
-Counted n count rest =
-    (0 < count) × (count ≤ 20) × (rest < 10 ^ (21 - count))
-    × (digitCount 10 (20 - count) rest + count ≡ digitCount 10 19 n + 1)
+pub digits-start : (b k n at : ℕ) (old : List ℕ) → laidAt (at + 0) (digitsOf b (k - 0) n) old ≡ laidAt at (digitsOf b k n) old
+digits-start b k n at old =
+    let e : at + 0 ≡ at = omega arith in
+    let f : k - 0 ≡ k = omega arith in
+    rw (e, f)
 
-pub counted-start : (n : ℕ) → n < 2 ^ 64 → Counted n 1 n
-counted-start n h = (omega arith, omega arith, omega arith, refl)
+pub digits-stored : (b k i n at : ℕ) (old : List ℕ) → i < k → at + k ≤ length old
+    → laidAt (at + (i + 1)) (digitsOf b (k - (i + 1)) (n / b)) (set old (at + i) (n % b)) ≡ laidAt (at + i) (digitsOf b (k - i) n) old
+unfolding digitsOf
+digits-stored b k i n at old h r =
+    let e : at + (i + 1) ≡ suc (at + i) = omega arith in
+    let f : k - i ≡ suc (k - (i + 1)) = omega arith in
+    rw (e, f) (sym (laidAt-cons (at + i) (n % b) (digitsOf b (k - (i + 1)) (n / b)) old (omega arith)))
 
-pub counted-room : (n count rest : ℕ) → Counted n count rest → 10 ≤ rest → count < 20
-counted-room n count rest c h = by (ltb count 20) refl
+pub digits-written : (b k i n at : ℕ) (old : List ℕ) → k ≤ i → old ≡ laidAt (at + i) (digitsOf b (k - i) n) old
+unfolding digitsOf
+digits-written b k i n at old h = let e : k - i ≡ 0 = omega arith in rw e (sym (laidAt-nil (at + i) old))
+
+-- ════════════════════════════════════════════════════════════════════════════════════════════
+-- Counting digits by comparison
+-- ════════════════════════════════════════════════════════════════════════════════════════════
+
+-- with k + 1 digits a number is below 10^(k + 1) and, unless there is one, at least 10^k
+count-is : (n k : ℕ) → n < 2 ^ 64 → (0 < k → 10 ^ k ≤ n) → n < 10 ^ suc k → digitCount 10 19 n ≡ suc k
+count-is n k w l h = by (ltb k (digitCount 10 19 n)) refl
   where
-    by : (t : Bool) → ltb count 20 ≡ t → count < 20
-    by true e = ltb-true count 20 e
+    by : (t : Bool) → ltb k (digitCount 10 19 n) ≡ t → digitCount 10 19 n ≡ suc k
+    by true e = omega (arith, ltb-true k (digitCount 10 19 n) e, digitCount-within 10 19 k n h)
     by false e =
-        let f = ltb-false count 20 e in
-        absurd (omega (arith, pow-le-pow-right {n = 10} (omega arith) {i = 21 - count} {j = 1} (omega arith), c .2))
+        let few = ltb-false k (digitCount 10 19 n) e in
+        let some = digitCount-pos 10 19 n in
+        let below = digitCount-suffices 10 19 n (omega arith) (omega arith) in
+        absurd (omega (arith, l (omega arith), below, pow-le-pow-right {n = 10} (omega arith) {i = digitCount 10 19 n} {j = k} few))
 
-pub counted-more : (n count rest : ℕ) → Counted n count rest → 10 ≤ rest → Counted n (count + 1) (rest / 10)
-counted-more n count rest c h =
-    let r = counted-room n count rest c h in
-    let e : 21 - count ≡ suc (20 - count) = omega arith in
-    let f : 21 - (count + 1) ≡ 20 - count = omega arith in
-    let g : 20 - count ≡ suc (20 - (count + 1)) = omega arith in (
-      omega arith,
-      omega arith,
-      rw f (digits-shift 10 (20 - count) rest (rw e at (c .2))),
-      omega (arith, digitCount-more 10 (20 - (count + 1)) rest h, ap (λ (j : ℕ). digitCount 10 j rest) g, c .3),
-    )
+-- so many digits are too few for n, or all but one
+abbrev pub Counting : ℕ → ℕ → ℕ → Type 0
+Counting n count limit = (0 < count) × (count ≤ 19) × (limit ≡ 10 ^ count) × (1 < count → 10 ^ (count - 1) ≤ n)
 
-pub counted-end : (n count rest : ℕ) → Counted n count rest → rest < 10 → count ≡ digitCount 10 19 n
-counted-end n count rest c h = omega (arith, digitCount-few 10 (20 - count) rest h)
+pub counting-start : (n : ℕ) → Counting n 1 10
+counting-start n = (omega arith, omega arith, refl, λ h. absurd (omega arith))
+
+pub counting-more : (n count limit : ℕ) → Counting n count limit → count < 19 → limit ≤ n → Counting n (count + 1) (limit * 10)
+counting-more n count limit c h l =
+    let e : count + 1 ≡ suc count = omega arith in
+    let f : count + 1 - 1 ≡ count = omega arith in
+    (omega arith, omega arith, rw (e, pow-suc 10 count) (ap (λ (m : ℕ). m * 10) (c .2)), λ k. rw f (omega (arith, c .2)))
+
+pub counting-room : (n count limit : ℕ) → Counting n count limit → count < 19 → limit ≤ 10 ^ 18
+counting-room n count limit c h = omega (arith, c .2, pow-le-pow-right {n = 10} (omega arith) {i = count} {j = 18} (omega arith))
+
+pub counting-end : (n count limit : ℕ) → n < 2 ^ 64 → Counting n count limit → n < limit → count ≡ digitCount 10 19 n
+counting-end n count limit w c h =
+    let e : suc (count - 1) ≡ count = omega arith in
+    sym (count-is n (count - 1) w (λ k. c .3 (omega arith)) (rw e (omega (arith, c .2))) ∙ e)
+
+pub counting-most : (n count limit : ℕ) → n < 2 ^ 64 → Counting n count limit → 19 ≤ count → limit ≤ n → 20 ≡ digitCount 10 19 n
+counting-most n count limit w c k h =
+    let e : count ≡ 19 = omega arith in
+    sym (count-is n 19 w (λ p. omega (arith, c .2, ap (λ (m : ℕ). 10 ^ m) e)) (omega arith))
 
 -- ════════════════════════════════════════════════════════════════════════════════════════════
 -- Decimals

@@ -53,6 +53,16 @@ minus-one : (m : ℕ) → negsuc 0 -ℤ pos m ≡ negsuc m
 minus-one zero = refl
 minus-one (suc m) = ap negsuc (omega arith)
 
+-- −1 − m, by the words' bits
+below-word : (m : ℕ) → m < 2 ^ 63 → negsuc 0 -ℤ toZ w64 m ≡ negsuc m
+below-word m h = rw (toZ-pos w64 {n = m} h) (minus-one m)
+
+pub below-fits : (m : ℕ) → m < 2 ^ 63 → SFits w64 (negsuc 0 -ℤ toZ w64 m)
+below-fits m h = rw (below-word m h) (record { sfits = h })
+
+pub below-back : (m : ℕ) → m < 2 ^ 63 → toZ w64 (ofZ w64 (negsuc 0 -ℤ toZ w64 m)) ≡ negsuc m
+below-back m h = toZ-ofZ (below-fits m h) ∙ below-word m h
+
 -- the number of k bits b, from a word in each half
 module _ (k b : ℕ) (p : 0 < k) (h : k ≤ 64) where
   pub lower-signed : b < top k → toZ w64 b ≡ signed k b

@@ -7,7 +7,7 @@ use Prim.Native.Nat.{ℕ, zero, suc, _+_, _*_, _-_, _/_, _%_, _^_, _<_, _≤_}
 use native.Mathlib.Nat.{mod-lt, mod-mod, mod-eq-of-lt, mul-mod-left, suc-mul, div-add-mod', pow-suc, add-zero, zero-mod}
 use native.Mathlib.Omega.{arith}
 use lib.IntN.{ℤ, pos, negsuc, _+ℤ_, _-ℤ_, -ℤ-+ℤ-cancel}
-use lib.Pow.{pow-pos}
+use lib.Pow.{pow-pos, mod-mod-pow}
 use lib.Dec.{ltb}
 use borrow.Author.Tests.{lt-ltb, le-ltb, ltb-true, ltb-false}
 use Rattle.word.specs.Wrap.{Signed, residue, half, signed, wrap, addWrap, subWrap}
@@ -77,6 +77,15 @@ residue-parts k (negsuc n) =
     let e : 2 ^ k - suc (n % 2 ^ k) + suc n ≡ suc (n / 2 ^ k) * 2 ^ k =
     omega (arith, suc-mul (n / 2 ^ k) (2 ^ k), div-add-mod' n (2 ^ k), mod-lt n (pow-pos k)) in
     rw e (mul-mod-left (suc (n / 2 ^ k)) (2 ^ k) ∙ sym (zero-mod (2 ^ k)))
+
+-- the lowest bits of a remainder
+pub residue-low : (j k : ℕ) (z : ℤ) → residue (j + k) z % 2 ^ k ≡ residue k z
+residue-low j k z =
+    let r = residue (j + k) z in
+    let all : (r + down z) % 2 ^ k ≡ up z % 2 ^ k =
+    sym (mod-mod-pow (r + down z) j k) ∙ ap (λ (n : ℕ). n % 2 ^ k) (residue-parts (j + k) z) ∙ mod-mod-pow (up z) j k in
+    mod-cancel (2 ^ k) r (residue k z) (down z) (pow-pos k) (all ∙ sym (residue-parts k z))
+    ∙ mod-eq-of-lt (residue-lt k z)
 
 pub residue-add : (k : ℕ) (a b : ℤ) → residue k (a +ℤ b) ≡ (residue k a + residue k b) % 2 ^ k
 residue-add k a b =

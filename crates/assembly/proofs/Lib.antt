@@ -1,0 +1,17 @@
+pub mod Numerals
+pub mod Cutting
+pub mod Rows
+pub mod Round
+pub mod Normal
+pub mod Bounds
+pub mod Claims
+pub mod Words
+pub mod Lines
+pub mod Operand
+pub mod Scanning
+pub mod Keeping
+pub mod Progress
+pub mod Gathering
+pub mod Handing
+pub mod Laying
+pub mod Telling

@@ -1,0 +1,167 @@
+-- What is read of a text are commands that can be written; and a normal text that is read is what is listed of its commands.
+-- Assumes nothing.
+use mathlib.Core.Path.{_≡_, refl, _∙_}
+use mathlib.Core.Bool.{Bool, true, false}
+use mathlib.Core.List.{List, [], _∷_, _++_, map, append-nil}
+use mathlib.Core.Option.{Option, none, some}
+use Prim.Native.Nat.{ℕ, zero, suc, _*_, _≤_}
+use native.Mathlib.Omega.{arith}
+use lib.IntN.{ℤ, pos}
+use lib.ListN.{length}
+use Rattle.word.specs.Choose.{choose}
+use Rattle.word.specs.Numeral.{numberOf}
+use Rattle.word.specs.Wrap.{Signed}
+use Rattle.word.proofs.Bool.{never, and-first, and-second}
+use Rattle.program.specs.declared.Command.{Command}
+use Rattle.program.specs.Command.{Opcode, operandWidth, inRange, opcode, operand, command}
+use Rattle.program.specs.Name.{letters, opcodeNamed}
+use Rattle.program.specs.Decode.{Decoded, refused, accepted, prepend, commandLimit}
+use Rattle.program.specs.Encode.{FitsBytes, Writable, AllWritable}
+use Rattle.program.proofs.Codes.{opcode-command, operand-command}
+use Rattle.program.proofs.Spelling.{letters-named}
+use Rattle.program.proofs.Ranges.{fits-word, range-fits}
+use Rattle.assembly.specs.Assembly.{newline, space, linesOf, wordsOf, Line, malformed, outside, says}
+use Rattle.assembly.specs.Assembly.{readNumber, readOperands, readNamed, readWords, readLine, readFirst, readFrom, readText}
+use Rattle.assembly.specs.Assembly.{opcodeText, lineText, listing}
+use Rattle.assembly.specs.Claim.{plainOperand, plainOperands, plainWords, plainLines, ended, Normal}
+use Rattle.assembly.proofs.Numerals.{decimal-plain, plain-decimal}
+use Rattle.assembly.proofs.Cutting.{spaced, words-back, lined, lines-back}
+use Rattle.assembly.proofs.Round.{operandWords, text-words, listing-lines}
+
+-- ════════════════════════════════════════════════════════════════════════════════════════════
+-- A line that says a command
+-- ════════════════════════════════════════════════════════════════════════════════════════════
+
+-- words that say a command: its operand fits, and if they are plain, they are the command's line
+abbrev Said : List (List ℕ) → Command → Type 0
+Said ws c = Writable c × (plainWords ws ≡ true → lineText c ≡ spaced space ws)
+
+-- by an opcode and an operand that make the command
+said-parts : (o : Opcode) (z : ℤ) (ws : List (List ℕ)) (c : Command) → c ≡ command o z → FitsBytes (operandWidth o) z
+    → (plainWords ws ≡ true → opcodeText o z ≡ spaced space ws) → Said ws c
+said-parts o z ws c e w t =
+    let p = opcode-command o z in
+    let q = operand-command o z (λ k. rw k at w) in
+    rw (e, p, q) (w, t)
+
+number-said : (o : Opcode) (x : Option ℤ) (c : Command) → readNumber o x ≡ says c
+    → (z : ℤ) × (x ≡ some z) × (inRange o z ≡ true) × (c ≡ command o z)
+number-said o none c e = never (cc)
+number-said o (some z) c e = by (inRange o z) refl e
+  where
+    by : (t : Bool) → inRange o z ≡ t → choose t (says (command o z)) outside ≡ says c
+        → (y : ℤ) × (some z ≡ some y) × (inRange o y ≡ true) × (c ≡ command o y)
+    by true f e = (z, refl, f, cc)
+    by false f e = never (cc)
+
+operands-said : (o : Opcode) (k : ℕ) (name : List ℕ) (ws : List (List ℕ)) (c : Command) → operandWidth o ≡ k → letters o ≡ name
+    → readOperands o k ws ≡ says c → Said (name ∷ ws) c
+operands-said o zero name [] c e f r =
+    said-parts o (pos 0) (name ∷ []) c (cc) (rw e refl) (λ p. rw (e, append-nil (letters o)) f)
+operands-said o zero name (w ∷ ws) c e f r = never (cc)
+operands-said o (suc k) name [] c e f r = never (cc)
+operands-said o (suc k) name (w ∷ []) c e f r =
+    let (z, n, i, d) = number-said o (numberOf w) c r in
+    let s = range-fits o z i in
+    said-parts o z (name ∷ w ∷ []) c d s
+    (λ p. rw (e, f, plain-decimal w z n (fits-word o z s) (and-first (plainOperand w) true p)))
+operands-said o (suc k) name (w ∷ v ∷ ws) c e f r = never (cc)
+
+named-said : (x : Option Opcode) (name : List ℕ) (ws : List (List ℕ)) (c : Command) → opcodeNamed name ≡ x → readNamed x ws ≡ says c
+    → Said (name ∷ ws) c
+named-said none name ws c e r = never (cc)
+named-said (some o) name ws c e r = operands-said o (operandWidth o) name ws c refl (letters-named name o e) r
+
+words-said : (ws : List (List ℕ)) (c : Command) → readWords ws ≡ says c → Said ws c
+words-said [] c r = never (cc)
+words-said (name ∷ ws) c r = named-said (opcodeNamed name) name ws c refl r
+
+line-writable : (l : List ℕ) (c : Command) → readLine l ≡ says c → Writable c
+line-writable l c r = words-said (wordsOf l) c r .0
+
+line-plain : (l : List ℕ) (c : Command) → readLine l ≡ says c → plainWords (wordsOf l) ≡ true → lineText c ≡ l
+line-plain l c r p = words-said (wordsOf l) c r .1 p ∙ words-back space l
+
+-- ════════════════════════════════════════════════════════════════════════════════════════════
+-- The commands that were read
+-- ════════════════════════════════════════════════════════════════════════════════════════════
+
+-- at most so many, they can be written, and if the lines are plain, they are what is listed
+abbrev Read : ℕ → List (List ℕ) → Decoded → Type 0
+Read left ls (refused r) = Unit {0}
+Read left ls (accepted cs) = (length cs ≤ left) × AllWritable cs × (plainLines ls ≡ true → listing cs ≡ lined ls)
+
+prepend-read : (left : ℕ) (l : List ℕ) (ls : List (List ℕ)) (c : Command) (d : Decoded) → readLine l ≡ says c → Read left ls d
+    → Read (suc left) (l ∷ ls) (prepend c d)
+unfolding listing
+prepend-read left l ls c (refused r) e h = tt
+prepend-read left l ls c (accepted cs) e (n, w, t) = (
+  omega arith,
+  (line-writable l c e, w),
+  λ p.
+      let q = line-plain l c e (and-first (plainWords (wordsOf l)) (plainLines ls) p) in
+      rw (q, t (and-second (plainWords (wordsOf l)) (plainLines ls) p)),
+)
+
+first-read : (left number : ℕ) (l : List ℕ) (ls : List (List ℕ)) (x : Line) (d : Decoded) → readLine l ≡ x → Read left ls d
+    → Read (suc left) (l ∷ ls) (readFirst x number d)
+first-read left number l ls malformed d e h = tt
+first-read left number l ls outside d e h = tt
+first-read left number l ls (says c) d e h = prepend-read left l ls c d e h
+
+lines-read : (left number : ℕ) (ls : List (List ℕ)) → Read left ls (readFrom left number ls)
+unfolding readFrom listing
+lines-read zero number [] = (omega arith, tt, λ p. refl)
+lines-read zero number (l ∷ ls) = tt
+lines-read (suc left) number [] = (omega arith, tt, λ p. refl)
+lines-read (suc left) number (l ∷ ls) =
+    first-read left number l ls (readLine l) (readFrom left (suc number) ls) refl (lines-read left (suc number) ls)
+
+module _ (text : List ℕ) (cs : List Command) (e : readText text ≡ accepted cs) where
+  text-read : Read commandLimit (linesOf text) (accepted cs)
+  unfolding readText
+  text-read = rw e at (lines-read commandLimit 1 (linesOf text))
+
+  pub read-length : length cs ≤ commandLimit
+  read-length = text-read .0
+
+  pub read-writable : AllWritable cs
+  read-writable = text-read .1
+
+  -- a normal text is what is listed of its commands
+  pub normal-listing : Normal text → listing cs ≡ text
+  normal-listing n =
+      text-read .2 (and-second (ended text) (plainLines (linesOf text)) n)
+      ∙ lines-back text (and-first (ended text) (plainLines (linesOf text)) n)
+
+-- ════════════════════════════════════════════════════════════════════════════════════════════
+-- What is listed is normal
+-- ════════════════════════════════════════════════════════════════════════════════════════════
+
+operand-plain : (k : ℕ) (z : ℤ) → Signed 64 z → plainOperands (operandWords k z) ≡ true
+operand-plain zero z h = refl
+operand-plain (suc k) z h = rw (decimal-plain z h)
+
+text-plain : (c : Command) → Writable c → plainWords (wordsOf (lineText c)) ≡ true
+text-plain c w =
+    let k = operandWidth (opcode c) in
+    rw (text-words (opcode c) k (operand c)) (operand-plain k (operand c) (fits-word (opcode c) (operand c) w))
+
+texts-plain : (cs : List Command) → AllWritable cs → plainLines (map lineText cs) ≡ true
+texts-plain [] w = refl
+texts-plain (c ∷ cs) w = rw (text-plain c (w .0)) (texts-plain cs (w .1))
+
+-- a newline ends what stands before it
+append-ended : (s : List ℕ) (t : List ℕ) → ended t ≡ true → ended (s ++ newline ∷ t) ≡ true
+append-ended [] [] e = refl
+append-ended [] (c ∷ t) e = e
+append-ended (c ∷ []) t e = append-ended [] t e
+append-ended (c ∷ d ∷ s) t e = append-ended (d ∷ s) t e
+
+listing-ended : (cs : List Command) → ended (listing cs) ≡ true
+unfolding listing
+listing-ended [] = refl
+listing-ended (c ∷ cs) = append-ended (lineText c) (listing cs) (listing-ended cs)
+
+pub listing-normal : (cs : List Command) → AllWritable cs → Normal (listing cs)
+listing-normal cs w = rw (listing-ended cs, listing-lines cs) (texts-plain cs w)

@@ -1,0 +1,39 @@
+-- `assembly::line::shaped` meets its contract: the shape and the operand's width decide.
+-- Assumes nothing.
+use borrow.Author.Needs.{needs}
+use borrow.Author.Tests.{eq-eqb, ne-eqb}
+use native.Mathlib.Omega.{arith}
+use mathlib.Core.Path.{_≡_, sym, _∙_}
+use Rattle.assembly.specs.Scan.{Few}
+use Rattle.assembly.proofs.line.shaped.Statement.{statement}
+use Rattle.assembly.proofs.line.shaped.Tie as tie
+
+returns : tie.Need-returns
+returns c =
+    let s = c .before .before .before .shape .given in
+    rw (s .1, eq-eqb (s .0 .0) 0 (c .before .if1 .taken)) (c .ending .ensures)
+
+add-operand : tie.Need-add-operand
+add-operand c =
+    let s = c .before .before .shape .given in
+    let few = rw (s .1) at (c .before .before .before .before .before .pre .1) in
+    omega arith
+
+returns-3 : tie.Need-returns-3
+returns-3 c =
+    let s = c .before .before .before .shape .given in
+    rw (s .1, ne-eqb (s .0 .0) 0 (c .before .if1 .left)) (c .operand .ensures)
+
+pub shaped-spec : {M : Type 1} → statement M
+shaped-spec =
+    tie.close
+    (tie.spec
+    (λ c. search needs)
+    (λ c. search needs)
+    (λ c. search needs)
+    (λ c κs. search needs)
+    returns
+    add-operand
+    (λ c κs. search needs)
+    (λ c. search needs)
+    returns-3)

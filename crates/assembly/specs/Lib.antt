@@ -1,0 +1,4 @@
+pub mod Assembly
+pub mod Scan
+pub mod Space
+pub mod Claim

@@ -1,0 +1,33 @@
+// The names of the commands as words (`Name`): those of `description` in specs/Command.antt.
+// Add
+pub const ADD: u64 = 0x416464;
+
+// Sub
+pub const SUB: u64 = 0x537562;
+
+// Pop
+pub const POP: u64 = 0x506f70;
+
+// Output
+pub const OUTPUT: u64 = 0x4f7574707574;
+
+// Push
+pub const PUSH: u64 = 0x50757368;
+
+// Load
+pub const LOAD: u64 = 0x4c6f6164;
+
+// Store
+pub const STORE: u64 = 0x53746f7265;
+
+// Jump
+pub const JUMP: u64 = 0x4a756d70;
+
+// Bnz
+pub const BNZ: u64 = 0x426e7a;
+
+// Call
+pub const CALL: u64 = 0x43616c6c;
+
+// Ret
+pub const RET: u64 = 0x526574;
