@@ -11,7 +11,7 @@ use Rattle.program.specs.Decode.{Decoded, refused, accepted, decode, commandLim
 use Rattle.program.specs.Encode.{AllWritable, encode}
 use Rattle.program.proofs.Encoding.{decode-encode, encode-decode, decoded-writable, encode-bytes}
 use Rattle.assembly.specs.Assembly.{readText, listing, given, resultOf, assembled, listed}
-use Rattle.assembly.specs.Claim.{ListedReads, ListedNormal, AssembledLists, NormalListed, NormalReads, NormalDecides}
+use Rattle.assembly.specs.Claim.{ListedReads, ListedNormal, AssembledLists, NormalListed, NormalOne, NormalReads, NormalDecides}
 use Rattle.assembly.specs.Claim.{SheetBound, ListingBound, ListingReached}
 use Rattle.assembly.proofs.Round.{listing-read}
 use Rattle.assembly.proofs.Normal.{read-length, read-writable, normal-listing, listing-normal}
@@ -77,6 +77,12 @@ assembled-lists text sheet e =
 pub normal-listed : NormalListed
 normal-listed text sheet e n =
     let (cs, r, t) = assembled-commands text sheet e in read-listed text sheet cs r t ∙ ap given (normal-listing text cs r n)
+
+pub normal-one : NormalOne
+normal-one text text′ sheet e e′ n n′ =
+    let p = normal-listed text sheet e n in
+    let q = normal-listed text′ sheet e′ n′ in
+    cc
 
 pub normal-reads : NormalReads
 normal-reads text sheet normal e f = listed-reads sheet normal (assembled-lists text sheet e .0) f

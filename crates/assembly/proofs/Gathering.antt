@@ -24,7 +24,8 @@ use Rattle.assembly.specs.Assembly.{linesOf, readLine, readFirst, readFr
 use Rattle.assembly.specs.Scan.{firstLine, lineTo, lineOf}
 use Rattle.assembly.specs.Space.{Roomy}
 use Rattle.assembly.proofs.Bounds.{encode-length}
-use Rattle.assembly.proofs.Lines.{lines-next, lines-end}
+use Rattle.assembly.proofs.Lines.{lines-next, line-within, lines-end}
+use Rattle.assembly.proofs.Normal.{line-long}
 use Rattle.assembly.proofs.Progress.{after, after-snoc, after-refused, after-accepted, length-snoc, laid-more, encode-snoc}
 
 -- ════════════════════════════════════════════════════════════════════════════════════════════
@@ -71,7 +72,7 @@ pub record Gathered (s : List ℕ) (at count size : ℕ) (old new : List ℕ) : 
   pub done : List Command
   pub counted : length done ≡ count
   pub few : count ≤ commandLimit
-  pub behind : count ≤ at
+  pub behind : 4 * count ≤ at
   pub rest : readText s ≡ after done (remaining s at count)
   pub sized : size ≡ length (encode done)
   pub roomy : size ≤ length old
@@ -172,9 +173,17 @@ module _ (s : List ℕ) (at count size : ℕ) (old new : List ℕ) (g : Gathered
             let k = ap length (encode-snoc (g .done) c) ∙ length-append (encode (g .done)) (encodeCommand c) in
             omega (arith, k, command-bytes, g .sized)
 
+        -- a line with its end has at least four characters
+        line-ahead : at + 4 ≤ next
+        unfolding end line
+        line-ahead = omega (arith, said .next-is, line-long (firstLine (drop at s)) (said .command) (said .said))
+
+        line-inside : next ≤ length s + 1
+        unfolding end line
+        line-inside = omega (arith, said .next-is, line-within s at (omega arith))
+
         pub gathered-forward : at < next
-        unfolding end
-        gathered-forward = omega (arith, said .next-is)
+        gathered-forward = omega (arith, line-ahead)
 
         pub gathered-room : Roomy s old → size + bytes ≤ length old
         gathered-room r =
@@ -184,7 +193,7 @@ module _ (s : List ℕ) (at count size : ℕ) (old new : List ℕ) (g : Gathered
               encode-length (g .done ++ (c ∷ [])),
               length-snoc (g .done) c,
               g .counted,
-              r (count + 1) (omega (arith, g .few)) (omega (arith, g .behind)),
+              r (count + 1) (omega (arith, g .few)) (omega (arith, g .behind, line-ahead, line-inside)),
             )
 
         following : readText s ≡ after (g .done ++ (c ∷ [])) (remaining s next (count + 1))
@@ -208,7 +217,7 @@ module _ (s : List ℕ) (at count size : ℕ) (old new : List ℕ) (g : Gathered
               done = g .done ++ (c ∷ []);
               counted = omega (arith, length-snoc (g .done) c, g .counted);
               few = omega (arith, g .few);
-              behind = omega (arith, g .behind, gathered-forward);
+              behind = omega (arith, g .behind, line-ahead);
               rest = following;
               sized = grown;
               roomy = room;

@@ -5,6 +5,7 @@ pub mod Round
 pub mod Normal
 pub mod Bounds
 pub mod Claims
+pub mod Trials
 pub mod Words
 pub mod Lines
 pub mod Operand

@@ -57,6 +57,19 @@ lines-next s at h =
     lines-first t (omega (arith, length-drop at s))
     ∙ ap (λ (r : List ℕ). firstLine t ∷ linesOf r) (drop-drop (suc (length (firstLine t))) at s ∙ ap (λ (i : ℕ). drop i s) n)
 
+first-length : (t : List ℕ) → length (firstLine t) ≤ length t
+unfolding firstLine
+first-length [] = omega arith
+first-length (c ∷ t) = by (eqb c 10) (first-length t)
+  where
+    by : (b : Bool) → length (firstLine t) ≤ length t → length (choose b [] (c ∷ firstLine t)) ≤ suc (length t)
+    by true h = omega arith
+    by false h = omega arith
+
+-- a line lies within the text
+pub line-within : (s : List ℕ) (at : ℕ) → at ≤ length s → at + length (firstLine (drop at s)) ≤ length s
+line-within s at h = omega (arith, first-length (drop at s), length-drop at s)
+
 pub lines-end : (s : List ℕ) (at : ℕ) → length s ≤ at → linesOf (drop at s) ≡ []
 lines-end s at h = ap linesOf (drop-of-length-le s h) ∙ lines-none
 

@@ -7,7 +7,7 @@ use mathlib.Core.Option.{Option, none, some}
 use Prim.Native.Nat.{ℕ, zero, suc, _*_, _≤_}
 use native.Mathlib.Omega.{arith}
 use lib.IntN.{ℤ, pos}
-use lib.ListN.{length}
+use lib.ListN.{length, length-append}
 use Rattle.word.specs.Choose.{choose}
 use Rattle.word.specs.Numeral.{numberOf}
 use Rattle.word.specs.Wrap.{Signed}
@@ -18,6 +18,7 @@ use Rattle.program.specs.Name.{letters, opcodeNamed}
 use Rattle.program.specs.Decode.{Decoded, refused, accepted, prepend, commandLimit}
 use Rattle.program.specs.Encode.{FitsBytes, Writable, AllWritable}
 use Rattle.program.proofs.Codes.{opcode-command, operand-command}
+use Rattle.program.proofs.Naming.{name-long}
 use Rattle.program.proofs.Spelling.{letters-named}
 use Rattle.program.proofs.Ranges.{fits-word, range-fits}
 use Rattle.assembly.specs.Assembly.{newline, space, linesOf, wordsOf, Line, malformed, outside, says}
@@ -75,6 +76,25 @@ named-said (some o) name ws c e r = operands-said o (operandWidth o) name ws c r
 words-said : (ws : List (List ℕ)) (c : Command) → readWords ws ≡ says c → Said ws c
 words-said [] c r = never (cc)
 words-said (name ∷ ws) c r = named-said (opcodeNamed name) name ws c refl r
+
+-- a line that says a command has the name's letters
+named-long : (x : Option Opcode) (name : List ℕ) (ws : List (List ℕ)) (c : Command) → opcodeNamed name ≡ x → readNamed x ws ≡ says c
+    → 3 ≤ length name
+named-long none name ws c e r = never (cc)
+named-long (some o) name ws c e r = rw (← letters-named name o e) (name-long o)
+
+words-long : (ws : List (List ℕ)) (c : Command) → readWords ws ≡ says c → 3 ≤ length (spaced space ws)
+words-long [] c r = never (cc)
+words-long (name ∷ []) c r = named-long (opcodeNamed name) name [] c refl r
+words-long (name ∷ w ∷ ws) c r =
+    omega (
+      arith,
+      length-append name (space ∷ spaced space (w ∷ ws)),
+      named-long (opcodeNamed name) name (w ∷ ws) c refl r,
+    )
+
+pub line-long : (l : List ℕ) (c : Command) → readLine l ≡ says c → 3 ≤ length l
+line-long l c r = rw (words-back space l) at (words-long (wordsOf l) c r)
 
 line-writable : (l : List ℕ) (c : Command) → readLine l ≡ says c → Writable c
 line-writable l c r = words-said (wordsOf l) c r .0

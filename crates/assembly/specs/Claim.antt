@@ -67,9 +67,14 @@ ListedNormal = (sheet text : List ℕ) → Bytes sheet → listed sheet ≡ give
 abbrev pub AssembledLists : Type 0
 AssembledLists = (text sheet : List ℕ) → assembled text ≡ given sheet → Bytes sheet × ((normal : List ℕ) × (listed sheet ≡ given normal))
 
--- and the text is the one normal text of those that give this sheet
+-- and a normal text is what listing gives of its sheet
 abbrev pub NormalListed : Type 0
 NormalListed = (text sheet : List ℕ) → assembled text ≡ given sheet → Normal text → listed sheet ≡ given text
+
+-- no other normal text gives this sheet
+abbrev pub NormalOne : Type 0
+NormalOne =
+    (text text′ sheet : List ℕ) → assembled text ≡ given sheet → assembled text′ ≡ given sheet → Normal text → Normal text′ → text ≡ text′
 
 -- reading the normal text of a text again gives the same bytes
 abbrev pub NormalReads : Type 0

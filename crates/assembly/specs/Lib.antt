@@ -2,3 +2,4 @@ pub mod Assembly
 pub mod Scan
 pub mod Space
 pub mod Claim
+pub mod Trial

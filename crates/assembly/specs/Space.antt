@@ -1,5 +1,5 @@
 -- What the code keeps in spaces of its own and of its callers.
-use Prim.Native.Nat.{ℕ, _*_, _≤_}
+use Prim.Native.Nat.{ℕ, _+_, _*_, _≤_}
 use mathlib.Core.Path.{_≡_}
 use mathlib.Core.Bool.{Bool, false}
 use mathlib.Core.List.{List, [], _∷_, _++_}
@@ -18,9 +18,9 @@ use Rattle.assembly.specs.declared.Written.{Written}
 use Rattle.assembly.specs.declared.Written.the-variants as Written
 use Rattle.assembly.specs.Assembly.{Result, denied, given, newline, operandText, listing}
 
--- room for nine bytes a line: a line has at least one byte, and there are at most 4,096
+-- room for nine bytes a line: a line has three letters and its end at least, and there are at most 4,096
 abbrev pub Roomy : List ℕ → List ℕ → Type 0
-Roomy text space = (lines : ℕ) → lines ≤ commandLimit → lines ≤ length text → 9 * lines ≤ length space
+Roomy text space = (lines : ℕ) → lines ≤ commandLimit → 4 * lines ≤ length text + 1 → 9 * lines ≤ length space
 
 -- how many bytes there are to be written, or why there are none
 abbrev pub measured : Result → Written

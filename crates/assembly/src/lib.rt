@@ -10,7 +10,7 @@ ghost use Prim.Native.Nat.{_≤_};
 ghost use lib.ListN.{length, take};
 ghost use Rattle.word.specs.Lay.{laid};
 ghost use Rattle.assembly.specs.Assembly.{assembled, listed, answer, left};
-ghost use Rattle.assembly.specs.Space.{refusedAt, Held, handedAnswer, handedOut};
+ghost use Rattle.assembly.specs.Space.{Roomy, refusedAt, Held, handedAnswer, handedOut};
 
 // How many bytes were written, or why nothing was.
 pub enum Written {
@@ -23,32 +23,27 @@ pub fn assemble(text: &[u8], out: &mut [u8]) -> Written
     ensures answer { λ r. ⌜ r ≡ answer (assembled (now (text .entry))) (now (out .entry)) ⌝ }
     ensures written { λ r. ⌜ now (out .exit) ≡ left (assembled (now (text .entry))) (now (out .entry)) ⌝ }
 {
-    if text.len() <= 455 {
-        small(text, out)
-    } else {
-        large(text, out)
+    // A line has at least three letters and its end. The shorter a space, the sooner it is there.
+    if text.len() <= 223 {
+        let mut space = [0u8; 512];
+        return through(text, &mut space, out);
     }
+    if text.len() <= 1819 {
+        let mut space = [0u8; 4096];
+        return through(text, &mut space, out);
+    }
+    let mut space = [0u8; 36864];
+    through(text, &mut space, out)
 }
 
-// A sheet is made in a space of its own, as a line that is refused may be the last. A short text has a short one, which is sooner there.
-fn small(text: &[u8], out: &mut [u8]) -> Written
-    requires { ⌜ length (now text) ≤ 455 ⌝ }
+// By a space with room for every line that can be read, as a line that is refused may be the last.
+fn through(text: &[u8], space: &mut [u8], out: &mut [u8]) -> Written
+    requires { ⌜ Roomy (now text) (now space) ⌝ }
     ensures answer { λ r. ⌜ r ≡ answer (assembled (now (text .entry))) (now (out .entry)) ⌝ }
     ensures written { λ r. ⌜ now (out .exit) ≡ left (assembled (now (text .entry))) (now (out .entry)) ⌝ }
 {
-    let mut sheet = [0u8; 4096];
-    let read = reading::read(text, &mut sheet);
-    handed(read, &sheet, out)
-}
-
-// Room for 4,096 commands of nine bytes.
-fn large(text: &[u8], out: &mut [u8]) -> Written
-    ensures answer { λ r. ⌜ r ≡ answer (assembled (now (text .entry))) (now (out .entry)) ⌝ }
-    ensures written { λ r. ⌜ now (out .exit) ≡ left (assembled (now (text .entry))) (now (out .entry)) ⌝ }
-{
-    let mut sheet = [0u8; 36864];
-    let read = reading::read(text, &mut sheet);
-    handed(read, &sheet, out)
+    let read = reading::read(text, space);
+    handed(read, space, out)
 }
 
 // Hands over the sheet that was read, if there is room.

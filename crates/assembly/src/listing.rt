@@ -4,7 +4,7 @@ use program::Shape;
 use word::text::Put;
 ghost use mathlib.Core.Path.{_≡_};
 ghost use mathlib.Core.List.{reverse};
-ghost use Prim.Native.Nat.{_+_, _≤_};
+ghost use Prim.Native.Nat.{_+_, _-_, _*_, _/_, _^_, _≤_};
 ghost use lib.Dec.{leb};
 ghost use lib.ListN.{length};
 ghost use Rattle.word.specs.Digits.{digitsOf};
@@ -128,8 +128,42 @@ fn has_operand(code: u64) -> bool
     }
 }
 
-// The letters of a word, the last the lowest.
+// The letters of a name's word, the last the lowest. Three to six letters are the first three and the last three, which may have some in
+// common: that is sooner done than to count them.
 fn put_name(word: u64, count: usize, out: &mut [u8], at: usize)
+    requires { ⌜ at + count ≤ length (now out) ⌝ }
+    ensures { λ _. ⌜ now (out .exit) ≡ laidAt at (reverse (digitsOf 256 count word)) (now (out .entry)) ⌝ }
+{
+    if 3 <= count {
+        if count <= 6 {
+            put_three(first_three(word, count), out, at);
+            put_three(word, out, at + (count - 3));
+            return;
+        }
+    }
+    put_letters(word, count, out, at);
+}
+
+// The first three letters of some.
+fn first_three(word: u64, count: usize) -> u64
+    requires { ⌜ (3 ≤ count) × (count ≤ 6) ⌝ }
+    ensures { λ r. ⌜ r ≡ word / 2 ^ (8 * (count - 3)) ⌝ }
+{
+    word >> (8 * (count - 3))
+}
+
+// The last three letters of a word.
+fn put_three(word: u64, out: &mut [u8], at: usize)
+    requires { ⌜ at + 3 ≤ length (now out) ⌝ }
+    ensures { λ _. ⌜ now (out .exit) ≡ laidAt at (reverse (digitsOf 256 3 word)) (now (out .entry)) ⌝ }
+{
+    out[at] = (word / 65536 % 256) as u8;
+    out[at + 1] = (word / 256 % 256) as u8;
+    out[at + 2] = (word % 256) as u8;
+}
+
+// Some letters, one by one.
+fn put_letters(word: u64, count: usize, out: &mut [u8], at: usize)
     requires { ⌜ at + count ≤ length (now out) ⌝ }
     ensures { λ _. ⌜ now (out .exit) ≡ laidAt at (reverse (digitsOf 256 count word)) (now (out .entry)) ⌝ }
 {

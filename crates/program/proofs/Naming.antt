@@ -50,12 +50,12 @@ letters-reversed (c ∷ a) b s t =
     letters-reversed a (c ∷ b) (letters-rest c a s)
     (and-intro (isLetter c) (allLetters b) (and-left (isLetter c) (allLetters a) s) t)
 
--- a name has letters only, at least one and at most 8
+-- a name has letters only, at least three and at most 8
 pub name-letters : (o : Opcode) → T (allLetters (letters o))
 name-letters o = opcode-all (λ o. allLetters (letters o)) tt o
 
-name-some : (o : Opcode) → 1 ≤ length (letters o)
-name-some o = leb→le 1 (length (letters o)) (opcode-all (λ o. leb 1 (length (letters o))) tt o)
+pub name-long : (o : Opcode) → 3 ≤ length (letters o)
+name-long o = leb→le 3 (length (letters o)) (opcode-all (λ o. leb 3 (length (letters o))) tt o)
 
 pub name-short : (o : Opcode) → length (letters o) ≤ 8
 name-short o = leb→le (length (letters o)) 8 (opcode-all (λ o. leb (length (letters o)) 8) tt o)
@@ -187,7 +187,7 @@ opcodeNamed-other m h = opcodeNamed-none m (λ o e. h (rw e at (name-letters o))
 pub codeNamed-zero : codeNamed 0 ≡ 0
 codeNamed-zero =
     ap codeNamed (sym packed-none) ∙ codeNamed-packed [] tt
-    ∙ ap codeOr (opcodeNamed-none [] (λ o e. omega (arith, ap length e, name-some o)))
+    ∙ ap codeOr (opcodeNamed-none [] (λ o e. omega (arith, ap length e, name-long o)))
 
 -- an opcode is found under the code of its name
 pub opcodeOf-codeOr : (x : Option Opcode) → opcodeOf (codeOr x) ≡ x

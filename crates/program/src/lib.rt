@@ -138,21 +138,46 @@ pub fn name_of(code: u64) -> Name
 pub fn code_of(word: u64) -> u64
     ensures { λ r. ⌜ r ≡ codeNamed word ⌝ }
 {
-    match word {
-        names::ADD => code::ADD,
-        names::SUB => code::SUB,
-        names::POP => code::POP,
-        names::OUTPUT => code::OUTPUT,
-        names::PUSH => code::PUSH,
-        names::LOAD => code::LOAD,
-        names::STORE => code::STORE,
-        names::JUMP => code::JUMP,
-        names::BNZ => code::BNZ,
-        names::CALL => code::CALL,
-        names::RET => code::RET,
-        _ => 0,
-    }
+    let guess = GUESSES[((word / 256 + word / 32768) % 32) as usize];
+    let name = name_of(guess);
+    if name.word == word { guess } else { 0 }
 }
+
+// By some bits of a word, the code of the one command whose name has these: a look and a test in place of ten tests.
+const GUESSES: [u64; 32] = [
+    0,
+    0,
+    0,
+    0,
+    0,
+    0,
+    1,
+    0,
+    0,
+    11,
+    0,
+    0,
+    0,
+    0,
+    10,
+    3,
+    7,
+    0,
+    9,
+    0,
+    0,
+    4,
+    0,
+    8,
+    0,
+    0,
+    0,
+    2,
+    0,
+    5,
+    0,
+    6,
+];
 
 // Is a number in the range of a code's operand? No number is where there is no operand.
 pub fn takes(code: u64, number: i64) -> bool

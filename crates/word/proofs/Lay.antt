@@ -2,10 +2,11 @@
 -- Assumes nothing.
 use mathlib.Core.Path.{_≡_, sym, ap, _∙_}
 use mathlib.Core.List.{List, [], _∷_, _++_, append-assoc, append-nil}
-use Prim.Native.Nat.{ℕ, suc, _+_, _<_, _≤_}
+use Prim.Native.Nat.{ℕ, suc, _+_, _-_, _<_, _≤_}
 use native.Mathlib.Nat.{add-zero, zero-add, add-suc, suc-add}
 use native.Mathlib.Omega.{arith}
-use lib.ListN.{length, drop, set, take-append-drop, length-append, length-drop, length-set}
+use lib.ListN.{length, take, drop, set, take-append-drop, length-append, length-drop, length-set}
+use lib.Seq.{take-append-seam, take-append-le, take-take, drop-append-add, drop-drop}
 use lib.Seq.{take-suc-set, take-set-le, drop-set-lt, drop-cons, getD-set-same, lt-length-set, length-take-le}
 use Rattle.word.specs.Lay.{laid, laidAt}
 
@@ -55,6 +56,41 @@ module _ {A : Type 0} where
   pub length-laidAt : (at : ℕ) (new old : List A) → at + length new ≤ length old → length (laidAt at new old) ≡ length old
   unfolding laidAt
   length-laidAt at new old h = simp (length-append, length-take-le at old (omega arith), length-drop) (omega arith)
+
+  -- what is laid over no more than itself
+  pub laidAt-over : (at : ℕ) (xs ys old : List A) → length xs ≤ length ys → at + length ys ≤ length old
+      → laidAt at ys (laidAt at xs old) ≡ laidAt at ys old
+  unfolding laidAt
+  laidAt-over at xs ys old h k =
+      let p = take at old ++ xs in
+      let r = drop (at + length xs) old in
+      let t : length (take at old) ≡ at = length-take-le at old (omega arith) in
+      let n : length p ≡ at + length xs = length-append (take at old) xs ∙ ap (λ (i : ℕ). i + length xs) t in
+      let e : at + length ys ≡ length p + (length ys - length xs) = omega (arith, n) in
+      let f : at + length xs + (length ys - length xs) ≡ at + length ys = omega arith in
+      let before : take at (p ++ r) ≡ take at old =
+      take-append-le at p r (omega (arith, n)) ∙ take-append-le at (take at old) xs (omega (arith, t)) ∙ take-take at at old (omega arith) in
+      let after : drop (at + length ys) (p ++ r) ≡ drop (at + length ys) old =
+      ap (λ (i : ℕ). drop i (p ++ r)) e ∙ drop-append-add p r (length ys - length xs)
+      ∙ drop-drop (length ys - length xs) (at + length xs) old ∙ ap (λ (i : ℕ). drop i old) f in
+      rw (before, after)
+
+  -- a list by its start and its end, which may have some of it in common
+  pub laidAt-both : (at : ℕ) (xs rest front ys old : List A) → xs ++ rest ≡ front ++ ys → length front ≤ length xs
+      → at + length (front ++ ys) ≤ length old → length xs ≤ length (front ++ ys)
+      → laidAt (at + length front) ys (laidAt at xs old) ≡ laidAt at (front ++ ys) old
+  laidAt-both at xs rest front ys old e h k l =
+      let n = length front in
+      let a = length-append front ys in
+      let d = drop n xs in
+      let start : front ≡ take n xs = sym (take-append-seam front ys) ∙ ap (take n) (sym e) ∙ take-append-le n xs rest h in
+      let whole : front ++ d ≡ xs = ap (λ (t : List A). t ++ d) start ∙ take-append-drop n xs in
+      let m = length-drop n xs in
+      let mid = laidAt at front old in
+      ap (λ (t : List A). laidAt (at + n) ys (laidAt at t old)) (sym whole)
+      ∙ ap (laidAt (at + n) ys) (laidAt-append at front d old (omega (arith, a)))
+      ∙ laidAt-over (at + n) d ys mid (omega (arith, a, m)) (omega (arith, a, length-laidAt at front old (omega (arith, a))))
+      ∙ sym (laidAt-append at front ys old (omega (arith, a)))
 
   pub length-laid : (new old : List A) → length new ≤ length old → length (laid new old) ≡ length old
   unfolding laid

@@ -1,87 +1,30 @@
--- `program::code_of` meets its contract: each arm's word is its opcode's name, and no other word is one.
+-- `program::code_of` meets its contract: a guess by some bits of the word, tested.
 -- Assumes nothing.
-use mathlib.Core.Path.{_≡_, sym}
-use Rattle.word.specs.Digits.{valueOf}
-use Rattle.program.specs.Command.{Opcode, add, sub, pop, output, push, load, store, jump, bnz, call, ret}
-use Rattle.program.specs.Name.{letters, packed, codeNamed}
-use Rattle.program.proofs.Naming.{codeNamed-none}
+use mathlib.Core.Path.{sym, ap, _∙_}
+use borrow.Author.Needs.{needs}
+use Rattle.program.proofs.Spelling.{guess-named, guess-other, guesses}
 use Rattle.program.proofs.code_of.Statement.{statement}
 use Rattle.program.proofs.code_of.Tie as tie
 
 returns : tie.Need-returns
-unfolding codeNamed packed valueOf
-returns c = rw (c .match .keys1)
+unfolding guesses
+returns c =
+    let name = c .before .before .name-of in
+    guess-named (c .before .before .before .args .word) (sym (ap (λ n. n .word) (name .ensures)) ∙ c .if1 .taken)
 
 returns-2 : tie.Need-returns-2
-unfolding codeNamed packed valueOf
-returns-2 c = rw (c .match .keys2)
-
-returns-3 : tie.Need-returns-3
-unfolding codeNamed packed valueOf
-returns-3 c = rw (c .match .keys3)
-
-returns-4 : tie.Need-returns-4
-unfolding codeNamed packed valueOf
-returns-4 c = rw (c .match .keys4)
-
-returns-5 : tie.Need-returns-5
-unfolding codeNamed packed valueOf
-returns-5 c = rw (c .match .keys5)
-
-returns-6 : tie.Need-returns-6
-unfolding codeNamed packed valueOf
-returns-6 c = rw (c .match .keys6)
-
-returns-7 : tie.Need-returns-7
-unfolding codeNamed packed valueOf
-returns-7 c = rw (c .match .keys7)
-
-returns-8 : tie.Need-returns-8
-unfolding codeNamed packed valueOf
-returns-8 c = rw (c .match .keys8)
-
-returns-9 : tie.Need-returns-9
-unfolding codeNamed packed valueOf
-returns-9 c = rw (c .match .keys9)
-
-returns-10 : tie.Need-returns-10
-unfolding codeNamed packed valueOf
-returns-10 c = rw (c .match .keys10)
-
-returns-11 : tie.Need-returns-11
-unfolding codeNamed packed valueOf
-returns-11 c = rw (c .match .keys11)
-
-returns-12 : tie.Need-returns-12
-unfolding packed valueOf
-returns-12 c = sym (codeNamed-none (c .before .args .word) other)
-  where
-    other : (o : Opcode) → c .before .args .word ≡ packed (letters o) → ⊥
-    other add = c .match .rest .0 .0 .0 .0 .0 .0 .0 .0 .0 .0 .1
-    other sub = c .match .rest .0 .0 .0 .0 .0 .0 .0 .0 .0 .1
-    other pop = c .match .rest .0 .0 .0 .0 .0 .0 .0 .0 .1
-    other output = c .match .rest .0 .0 .0 .0 .0 .0 .0 .1
-    other push = c .match .rest .0 .0 .0 .0 .0 .0 .1
-    other load = c .match .rest .0 .0 .0 .0 .0 .1
-    other store = c .match .rest .0 .0 .0 .0 .1
-    other jump = c .match .rest .0 .0 .0 .1
-    other bnz = c .match .rest .0 .0 .1
-    other call = c .match .rest .0 .1
-    other ret = c .match .rest .1
+unfolding guesses
+returns-2 c =
+    let name = c .before .before .name-of in
+    guess-other (c .before .before .before .args .word) (λ e. c .if1 .left (ap (λ n. n .word) (name .ensures) ∙ e))
 
 pub code-of-spec : {M : Type 1} → statement M
 code-of-spec =
     tie.close
     (tie.spec
+    (λ c. search needs)
+    (λ c. search needs)
+    (λ c. search needs)
+    (λ c κs. search needs)
     returns
-    returns-2
-    returns-3
-    returns-4
-    returns-5
-    returns-6
-    returns-7
-    returns-8
-    returns-9
-    returns-10
-    returns-11
-    returns-12)
+    returns-2)

@@ -1,9 +1,10 @@
 -- Digits over any base b: a number below b^k is given back by its k digits, and digits below b by their number.
 -- Assumes nothing.
-use mathlib.Core.Path.{_≡_, refl, ap}
-use mathlib.Core.List.{List, [], _∷_}
+use mathlib.Core.Path.{_≡_, refl, sym, ap}
+use mathlib.Core.List.{List, [], _∷_, _++_}
 use Prim.Native.Nat.{ℕ, zero, suc, _+_, _*_, _/_, _%_, _^_, _<_}
 use native.Mathlib.Nat.{one-le-pow, mod-lt, pow-zero, pow-suc, pow-succ', mul-comm, add-comm, mod-add-div', div-lt-iff-lt-mul}
+use native.Mathlib.Nat.{zero-add, suc-add, div-one, div-div-eq-div-mul}
 use native.Mathlib.Omega.{arith}
 use lib.Arith as Arith
 use lib.ListN.{length, getD}
@@ -64,6 +65,13 @@ value-digits b (d ∷ ds) f =
     let h = below-head b d ds f in
     rw (add-comm d (valueOf b ds * b), Arith.digits-mod (valueOf b ds) h, Arith.digits-div (valueOf b ds) h)
     (ap (λ (l : List ℕ). d ∷ l) (value-digits b ds (below-tail b d ds f)))
+
+-- the lowest j digits, and then those of what is left of the number
+pub digits-append : (b j k n : ℕ) → digitsOf b (j + k) n ≡ digitsOf b j n ++ digitsOf b k (n / b ^ j)
+unfolding digitsOf
+digits-append b zero k n = rw (pow-zero b, div-one n, zero-add k)
+digits-append b (suc j) k n =
+    rw (suc-add j k, pow-succ' b j, sym (div-div-eq-div-mul n b (b ^ j))) (ap (λ (l : List ℕ). n % b ∷ l) (digits-append b j k (n / b)))
 
 pow-pos-base : (b k : ℕ) → 0 < b → 0 < b ^ k
 pow-pos-base b k p = one-le-pow k b p
