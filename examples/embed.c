@@ -5,29 +5,43 @@
  *     rt staticlib exports
  *     cc -I include examples/embed.c target/staticlib/libexports.a -o embed
  */
+#include <inttypes.h>
 #include <luvrodan.h>
 #include <stdio.h>
+#include <string.h>
 
-static const uint8_t job[] = {
+static const char text[] =
+    "Push 1\n"
+    "Load\n"
+    "Push 0\n"
+    "Load\n"
+    "Add\n"
+    "Output\n"
+    "Push 0\n"
+    "Load\n"
+    "Output\n";
+
+/* The job as far as its sheet. */
+static const uint8_t head[] = {
     0x40, 7, 0, 0, 0, 0, 0, 0, 0, 0, 0, 0, 0, /* cell 0: 7, label 0 */
     0x40, 5, 0, 0, 0, 0, 0, 0, 0, 1, 0, 0, 0, /* cell 1: 5, label 1 */
     0x42, 1, 0, 0, 0,                         /* the reader's set */
     0x43,                                     /* the sheet */
-    0x05, 1, 0, 0, 0, 0, 0, 0, 0,             /* Push 1 */
-    0x06,                                     /* Load */
-    0x05, 0, 0, 0, 0, 0, 0, 0, 0,             /* Push 0 */
-    0x06,                                     /* Load */
-    0x01,                                     /* Add */
-    0x04,                                     /* Output */
-    0x05, 0, 0, 0, 0, 0, 0, 0, 0,             /* Push 0 */
-    0x06,                                     /* Load */
-    0x04,                                     /* Output */
 };
 
 int main(void)
 {
+    static uint8_t job[sizeof head + LUVRODAN_SHEET_LIMIT];
     static uint8_t page[LUVRODAN_PAGE_LIMIT];
-    luvrodan_page_result result = luvrodan_page(job, sizeof job, page, sizeof page);
+
+    memcpy(job, head, sizeof head);
+    luvrodan_written sheet =
+        luvrodan_assemble((const uint8_t *)text, strlen(text), job + sizeof head, LUVRODAN_SHEET_LIMIT);
+    if (sheet.refusal != 0) {
+        fprintf(stderr, "refused %" PRIu64 ", line %" PRIu64 "\n", sheet.refusal, sheet.position);
+        return 1;
+    }
+    luvrodan_page_result result = luvrodan_page(job, sizeof head + sheet.length, page, sizeof page);
     if (result.status != 0)
         return 1;
     return fwrite(page, 1, result.length, stdout) == result.length ? 0 : 1;

@@ -4,17 +4,25 @@
 //!     rt staticlib exports
 //!     LUVRODAN_ARCHIVE=target/staticlib/libexports.a cargo run --offline --release -p luvrodan --example embed
 
-use luvrodan::{page, Atom, Machine, Refusal};
+use luvrodan::{assemble, page, Atom, Machine, Refusal};
 use std::io::Write;
 
-/// Push 1, Load, Push 0, Load, Add, Output, Push 0, Load, Output.
-const SHEET: [u8; 33] =
-    [5, 1, 0, 0, 0, 0, 0, 0, 0, 6, 5, 0, 0, 0, 0, 0, 0, 0, 0, 6, 1, 4, 5, 0, 0, 0, 0, 0, 0, 0, 0, 6, 4];
+const SHEET: &str = "\
+Push 1
+Load
+Push 0
+Load
+Add
+Output
+Push 0
+Load
+Output
+";
 const CELLS: [Atom; 2] = [Atom { number: 7, label: 0 }, Atom { number: 5, label: 1 }];
 const READER: u32 = 1;
 
 /// The job: cells, the reader's set, the sheet.
-fn job() -> Vec<u8> {
+fn job(sheet: &[u8]) -> Vec<u8> {
     let mut job = Vec::new();
     for cell in CELLS {
         job.push(0x40);
@@ -24,17 +32,18 @@ fn job() -> Vec<u8> {
     job.push(0x42);
     job.extend(READER.to_le_bytes());
     job.push(0x43);
-    job.extend(SHEET);
+    job.extend(sheet);
     job
 }
 
 fn main() -> Result<(), Refusal> {
+    let sheet = assemble(SHEET)?;
     // In one call, as the program `page` does it.
-    let page = page(&job());
+    let page = page(&job(&sheet));
     std::io::stdout().write_all(&page).expect("standard output takes the page");
     // The same lines from a run on the plain engine.
     let mut machine = Machine::new(&CELLS, 100);
-    let report = machine.run_plain(&SHEET, 1000)?;
+    let report = machine.run_plain(&sheet, 1000)?;
     let mut lines = String::new();
     for line in machine.view(READER) {
         lines += &format!("{line}\n");

@@ -31,19 +31,23 @@ extern "C" {
 #define LUVRODAN_PROGRAM_WORDS 8192      /* enough for any sheet: two words a command: code, operand or 0 */
 #define LUVRODAN_HANDLER_WORDS 16384     /* enough for any handler: two words a command */
 #define LUVRODAN_PAGE_LIMIT 30720        /* bytes of the longest page: 1,024 lines, end line included, of at most 30 */
+#define LUVRODAN_SHEET_LIMIT 36864       /* bytes of the longest sheet: 4,096 commands of at most 9 */
+#define LUVRODAN_TEXT_LIMIT 106496       /* bytes of the longest listing: 4,096 lines, newlines included, of at most 26 */
 
-/* Refusals (luvrodan_result.refusal). */
+/* Refusals (luvrodan_result.refusal, luvrodan_written.refusal). */
 enum {
     LUVRODAN_ACCEPTED = 0,
-    LUVRODAN_REFUSED_COMMANDS = 1,       /* a 4,097th command; position: its byte offset */
+    LUVRODAN_REFUSED_COMMANDS = 1,       /* a 4,097th command; position: its byte offset, in a text its line, 4,097 */
     LUVRODAN_REFUSED_CODE = 2,           /* a code that is not 01 to 0b; position: its offset */
     LUVRODAN_REFUSED_OPERAND = 3,        /* a cut operand; position: the command's offset */
     LUVRODAN_REFUSED_CELLS = 4,          /* runs of cells that differ in length (the shorter), or over 1,024 (1,024) */
     LUVRODAN_REFUSED_LABEL = 5,          /* a label word outside 0 to 2^32-1; position: the first such cell */
     LUVRODAN_REFUSED_TABLE = 6,          /* no rule table; position: 512 where it is longer, else the first faulty byte */
     LUVRODAN_REFUSED_RULE_MEMORY = 7,    /* neither empty nor an allowed row of this table, or not seven words; 0 */
-    LUVRODAN_REFUSED_SPACE = 8,          /* too short: 1 program, 2 stack, 3 handler; the first such */
-    LUVRODAN_REFUSED_FUEL = 9            /* an allowance over 1,000,000; 0 */
+    LUVRODAN_REFUSED_SPACE = 8,          /* too short: 1 program, 2 stack, 3 handler, the first such; 4 output buffer */
+    LUVRODAN_REFUSED_FUEL = 9,           /* an allowance over 1,000,000; 0 */
+    LUVRODAN_REFUSED_LINE = 10,          /* not a command and its operands; position: the text's line, from 1 */
+    LUVRODAN_REFUSED_RANGE = 11          /* an operand outside its command's range; position: the text's line, from 1 */
 };
 
 /* Stops (luvrodan_result.stop, where refusal is 0). */
@@ -152,6 +156,40 @@ typedef struct {
 
 /* The page of a job: what the program `page` prints for these bytes on standard input. */
 luvrodan_page_result luvrodan_page(const uint8_t *job, size_t job_length, uint8_t *page, size_t page_length);
+
+/*
+ * What was written of a sheet or a text. refusal 0: it is the buffer's first `length` bytes, the rest is as it came,
+ * and position is 0. Otherwise position is the refusal's place, length is 0, and the whole buffer is as it came.
+ */
+typedef struct {
+    uint64_t refusal;
+    uint64_t position;
+    uint64_t length;
+} luvrodan_written;
+
+/*
+ * Reads a text and writes its sheet.
+ *
+ * A line is a command's name (Add, Sub, Pop, Output, Push, Load, Store, Jump, Bnz, Call, Ret) and, for Push and Bnz,
+ * one space and the operand: digits, perhaps after a minus. Push takes a signed number of 64 bits, Bnz one of 16, with
+ * any number of digits; leading zeros and a minus before 0 are read too. Nothing else may stand on a line, no second
+ * space, tab, carriage return or plus. A newline ends each line; the last one may be missing. The empty text is the
+ * empty sheet.
+ *
+ * Refusals, line by line: 1 at line 4,097, whatever it holds; 10 (an unknown name, more or fewer operands than the
+ * command has, or one that is badly written); 11 (an operand outside the range). After all lines: 8 at 4 (the sheet is
+ * longer than the buffer). A buffer of LUVRODAN_SHEET_LIMIT bytes is enough for any text.
+ */
+luvrodan_written luvrodan_assemble(const uint8_t *text, size_t text_length, uint8_t *sheet, size_t sheet_length);
+
+/*
+ * Lists a sheet as the one normal text: no leading zeros, no minus before 0, a newline at each line's end. Reading
+ * that gives the sheet again.
+ *
+ * Refusals, in this order: 1, 2, 3 (sheet), 8 at 4 (the text is longer than the buffer). A buffer of
+ * LUVRODAN_TEXT_LIMIT bytes is enough for any sheet.
+ */
+luvrodan_written luvrodan_list(const uint8_t *sheet, size_t sheet_length, uint8_t *text, size_t text_length);
 
 #ifdef __cplusplus
 }

@@ -1,6 +1,6 @@
 #!/usr/bin/env bash
-# The engines through the C interface: the wrapper's tests, the examples in Rust and C, the engines against the model, and the search for
-# two runs that break demand 3.
+# The engines through the C interface: the wrapper's tests, the examples in Rust and C, the engines against the model, the search for
+# two runs that break demand 3, and sheets in text against the model.
 #     bash tests/engines.sh [SEED [COUNT]]
 # LUVRODAN_ARCHIVE may name the static library; otherwise the crate `exports` is built.
 set -eu
@@ -25,5 +25,7 @@ cc -std=c99 -Wall -Wextra -Werror -I include examples/embed.c "$LUVRODAN_ARCHIVE
 cmp "$out/page" "$out/c"
 
 cargo build --offline --release --quiet -p differential --features engine
-target/release/differential engines "$seed" "$count"
-target/release/differential privacy "$seed" "$count"
+differential=${CARGO_TARGET_DIR:-target}/release/differential
+"$differential" engines "$seed" "$count"
+"$differential" privacy "$seed" "$count"
+"$differential" text "$seed" "$count"

@@ -1,11 +1,15 @@
-//! Measures the engines and what they are held against in one run, and prints ratios. All are reached with the same
-//! memory, which is made anew before each run, outside the time. Processor time is measured, the best of several runs
-//! counts, and the runs of one workload take turns, so that a busy machine slows all of them alike.
+//! Measures the engines, the reader and the lister of texts and what they are held against in one run, and prints ratios.
+//! The engines are all reached with the same memory, which is made anew before each run, outside the time. Processor time
+//! is measured, the best of several runs counts, and the runs of one workload take turns, so that a busy machine slows
+//! all of them alike.
 
-use bench::workloads::{all, berth, idle, walk, Workload};
-use bench::{fast, safe, tags};
+use bench::workloads::{all, berth, idle, texts, walk, Workload};
+use bench::{fast, safe, tags, text};
+use differential::text::{Texts, Written};
 use model::engine::{Lent, Report};
 use model::rules::STANDARD;
+use model::sheet;
+use model::text::normal;
 use std::hint::black_box;
 use std::io::Write;
 use std::process::{Command, Stdio};
@@ -41,11 +45,14 @@ struct Contestant<'a> {
     run: Runner<'a>,
 }
 
+/// A reader and lister, by name.
+type Converter = (&'static str, &'static dyn Texts);
+
 fn counts(report: Report) -> [u64; 3] {
     [report.steps, report.faults, report.kernel_steps]
 }
 
-const ACCEPTED: &str = "the start breaks no limit";
+const ACCEPTED: &str = "nothing breaks a limit";
 
 #[cfg(feature = "engine")]
 mod engine {
@@ -72,6 +79,10 @@ mod engine {
         ]
     }
 
+    pub fn converters() -> Vec<Converter> {
+        vec![("proved", &Engine)]
+    }
+
     /// The handler's words as the engine leaves them.
     pub fn handler() -> Vec<i64> {
         let mut lent = Lent::roomy(&[], 0);
@@ -89,6 +100,10 @@ mod engine {
 
     pub fn contestants<'a>() -> Vec<Contestant<'a>> {
         println!("built without the feature `engine`: only what the engines would be held against");
+        vec![]
+    }
+
+    pub fn converters() -> Vec<Converter> {
         vec![]
     }
 
@@ -242,21 +257,25 @@ fn short_time(contestant: &Contestant, sheet: &[u8], lent: &Lent, fuel: u64) -> 
     best
 }
 
+fn header(title: &str, columns: &[&str]) {
+    print!("\n{title:>34}");
+    for column in columns {
+        print!(" {column:>13}");
+    }
+    println!();
+}
+
+fn row(name: String, figures: Vec<f64>) {
+    print!("{name:>34}");
+    for figure in figures {
+        print!(" {figure:>13.2}");
+    }
+    println!();
+}
+
 fn print_growth(handler: &[i64], contestants: &[Contestant]) {
-    let header = |title: &str| {
-        print!("\n{title:>34}");
-        for contestant in contestants {
-            print!(" {:>13}", contestant.name);
-        }
-        println!();
-    };
-    let row = |name: String, times: Vec<f64>| {
-        print!("{name:>34}");
-        for time in times {
-            print!(" {time:>13.2}");
-        }
-        println!();
-    };
+    let names: Vec<&str> = contestants.iter().map(|contestant| contestant.name).collect();
+    let header = |title: &str| header(title, &names);
     header("growth with steps: ns/step");
     for fuel in [1_000, 10_000, 100_000, 1_000_000] {
         let measured = measure(contestants, &walk(1024), handler, fuel);
@@ -288,6 +307,48 @@ fn print_growth(handler: &[i64], contestants: &[Contestant]) {
     row("berth: 18 steps, 4 lines".into(), contestants.iter().map(time).collect());
 }
 
+/// Reads or lists.
+type Convert = fn(&'static dyn Texts, &[u8], &mut [u8]) -> Written;
+
+/// Nanoseconds of each converter's best round through all inputs.
+fn convert_times(converters: &[Converter], convert: Convert, inputs: &[Vec<u8>]) -> Vec<f64> {
+    // Room for the longest line of every command.
+    let mut buffer = vec![0; 26 * sheet::COMMANDS];
+    let mut times = vec![f64::INFINITY; converters.len()];
+    for _ in 0..ROUNDS {
+        for (&(name, texts), time) in converters.iter().zip(&mut times) {
+            let began = now();
+            for input in inputs {
+                let [refusal, ..] = convert(texts, black_box(input), &mut buffer);
+                assert_eq!(refusal, 0, "{name}: {ACCEPTED}");
+            }
+            *time = time.min(now() - began);
+        }
+    }
+    times
+}
+
+fn print_texts() {
+    let mut converters = engine::converters();
+    converters.push((SAFE, &text::Straightforward));
+    let names = converters.iter().map(|&(name, _)| name);
+    let columns: Vec<&str> = names.chain(["times as long"]).collect();
+    let table = |title: &str, convert: Convert, input: fn(&[sheet::Command]) -> Vec<u8>| {
+        header(title, &columns);
+        for (name, commands) in texts() {
+            for lines in [16, 256, 4096] {
+                let inputs: Vec<Vec<u8>> = commands.chunks(lines).map(input).collect();
+                let times = convert_times(&converters, convert, &inputs);
+                let ratio = times[0] / times[times.len() - 1];
+                let line_times = times.iter().map(|time| time / commands.len() as f64);
+                row(format!("{name}, {lines} lines"), line_times.chain([ratio]).collect());
+            }
+        }
+    };
+    table("reading a text: ns/line", <dyn Texts>::assemble, |commands| normal(commands).into_bytes());
+    table("listing a sheet: ns/line", <dyn Texts>::list, sheet::encode);
+}
+
 /// Microseconds from start to end of a program, the best of many, with a file as its standard input.
 fn process_time(program: &str, input: &str) -> Option<f64> {
     const STARTS: usize = 300;
@@ -317,5 +378,6 @@ fn main() {
     println!("the standard table's handler has {} kernel commands", handler.len() / 2);
     print_speeds(&handler, &contestants);
     print_growth(&handler, &contestants);
+    print_texts();
     print_startup();
 }

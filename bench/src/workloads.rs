@@ -2,7 +2,7 @@
 
 use differential::random::Random;
 use model::engine::Lent;
-use model::sheet::{encode, Command, Command::*};
+use model::sheet::{encode, Command, Command::*, COMMANDS};
 use model::Atom;
 
 pub struct Workload {
@@ -162,4 +162,31 @@ pub fn berth() -> Workload {
 pub fn idle(commands: usize) -> Vec<u8> {
     let pair = [Push(1), Pop];
     encode(&pair.into_iter().cycle().take(commands).collect::<Vec<_>>())
+}
+
+/// Commands to read and to list, which are cut into texts of one length. They are so many that the processor cannot
+/// foresee their branches, as it would those of one text that is read again and again.
+pub fn texts() -> [(&'static str, Vec<Command>); 3] {
+    const NAMES: [Command; 9] = [Add, Sub, Pop, Output, Load, Store, Jump, Call, Ret];
+    let mut random = Random::new(2026);
+    let mut drawn =
+        |draw: fn(&mut Random) -> Command| (0..16 * COMMANDS).map(|_| draw(&mut random)).collect();
+    [
+        (
+            "mixed",
+            drawn(|random| match random.weighted(&[45, 5, 50]) {
+                0 => Push(random.below(64) as i64),
+                1 => Bnz(random.below(32) as i16 - 16),
+                _ => random.pick(&NAMES),
+            }),
+        ),
+        (
+            "19 digits",
+            drawn(|random| {
+                let number = random.between(10usize.pow(18), i64::MAX as usize) as i64;
+                Push(random.pick(&[number, -number]))
+            }),
+        ),
+        ("names", drawn(|random| random.pick(&NAMES))),
+    ]
 }

@@ -1,10 +1,12 @@
 //! What is measured gives the model's answers, and the workloads go on as long as they are measured.
 
+use bench::text::Straightforward;
 use bench::workloads::all;
 use bench::{fast, safe, tags};
 use differential::backend::{Answer, Backend, Itself};
 use differential::compare::compare_case;
 use differential::tally::Tally;
+use differential::text::{edge_cases, tally, text_case};
 use model::engine::{Lent, ALLOWANCE};
 use model::machine::Stop;
 use model::rules::Table;
@@ -58,6 +60,16 @@ fn interpreters_agree_with_the_model() {
             assert!(engine.stops.iter().all(|&count| count > 0), "{:?}", engine.stops);
         }
     }
+}
+
+#[test]
+fn texts_agree_with_the_model() {
+    edge_cases(&Straightforward).unwrap();
+    let mut tally = tally::Tally::default();
+    for case in 0..20_000 {
+        text_case(&Straightforward, 3, case, &mut tally).unwrap();
+    }
+    assert_eq!(tally.missing(), [""; 0]);
 }
 
 /// A sum that grows would stop them.

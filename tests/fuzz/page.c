@@ -2,23 +2,7 @@
  * A fuzz target for libFuzzer: any bytes as a job. The page must fit, end a line where it is not empty, have an end line nowhere but
  * last, and leave every byte beyond it as it came; a shorter buffer must be left alone.
  */
-#include <luvrodan.h>
-#include <stdlib.h>
-#include <string.h>
-
-enum { GUARD = 64, UNTOUCHED = 0xa5 };
-
-static void check(int holds)
-{
-    if (!holds)
-        abort();
-}
-
-static void check_untouched(const uint8_t *from, const uint8_t *to)
-{
-    for (; from < to; from++)
-        check(*from == UNTOUCHED);
-}
+#include "check.h"
 
 /* No line that begins with an 'e', as an end line does and no other, stands before another line. */
 static void check_end_line(const uint8_t *page, uint64_t length)

@@ -1,6 +1,6 @@
 //! Refusals and stops by name.
 
-use crate::sys::RawResult;
+use crate::sys::{RawResult, RawWritten};
 use std::error::Error;
 use std::fmt;
 
@@ -10,9 +10,12 @@ pub enum Space {
     Program = 1,
     Stack = 2,
     Handler = 3,
+    /// The buffer that a sheet or a text is written to.
+    Buffer = 4,
 }
 
-/// A start that breaks a limit. Nothing ran, and no lent word changed.
+/// A start that breaks a limit, or a text or a sheet that cannot be had in the other form. Nothing ran, and nothing that
+/// was lent changed.
 #[derive(Clone, Copy, Debug, PartialEq, Eq)]
 pub enum Refusal {
     /// A 4,097th command, at this byte of the sheet.
@@ -44,6 +47,18 @@ pub enum Refusal {
     ShortSpace(Space),
     /// An allowance over 1,000,000.
     Allowance,
+    /// A 4,097th line of a text.
+    TooManyLines {
+        line: u64,
+    },
+    /// A line of a text that is not a command's name and its operands, one space before each. Lines count from 1.
+    BadLine {
+        line: u64,
+    },
+    /// A line of a text whose operand is outside its command's range.
+    OperandOutside {
+        line: u64,
+    },
 }
 
 /// How an accepted run ended. `End` is the sheet's end with its line written; without room for that line it is
@@ -82,7 +97,7 @@ impl Refusal {
     /// The refusal's number, as docs/MANUAL.md lists them.
     pub fn number(self) -> u64 {
         match self {
-            Refusal::TooManyCommands { .. } => 1,
+            Refusal::TooManyCommands { .. } | Refusal::TooManyLines { .. } => 1,
             Refusal::UnknownCode { .. } => 2,
             Refusal::CutOperand { .. } => 3,
             Refusal::CellCount { .. } => 4,
@@ -91,6 +106,8 @@ impl Refusal {
             Refusal::RuleMemory => 7,
             Refusal::ShortSpace(_) => 8,
             Refusal::Allowance => 9,
+            Refusal::BadLine { .. } => 10,
+            Refusal::OperandOutside { .. } => 11,
         }
     }
 
@@ -105,13 +122,26 @@ impl Refusal {
             Refusal::LabelOutside { cell } => cell,
             Refusal::ShortSpace(space) => space as u64,
             Refusal::RuleMemory | Refusal::Allowance => 0,
+            Refusal::TooManyLines { line } | Refusal::BadLine { line } | Refusal::OperandOutside { line } => {
+                line
+            }
         }
     }
 }
 
+/// As `page` prints it, and for those who write texts in words too.
 impl fmt::Display for Refusal {
     fn fmt(&self, out: &mut fmt::Formatter) -> fmt::Result {
-        write!(out, "refused {} {}", self.number(), self.place())
+        write!(out, "refused {} {}", self.number(), self.place())?;
+        match self {
+            Refusal::TooManyLines { line } => write!(out, ": line {line} is one too many"),
+            Refusal::BadLine { line } => write!(out, ": line {line} is not a command with its operands"),
+            Refusal::OperandOutside { line } => {
+                write!(out, ": line {line} has an operand outside its command's range")
+            }
+            Refusal::ShortSpace(Space::Buffer) => out.write_str(": the buffer is too short"),
+            _ => Ok(()),
+        }
     }
 }
 
@@ -146,14 +176,31 @@ impl RawResult {
     pub fn named(self) -> Result<Report, Refusal> {
         match self.refusal {
             0 => Ok(report(self)),
-            _ => Err(refusal(self)),
+            number => Err(refusal(number, self.position)),
         }
     }
 }
 
-fn refusal(raw: RawResult) -> Refusal {
-    let place = raw.position;
-    match raw.refusal {
+impl RawWritten {
+    /// What listing a sheet came to: the text's length, or the refusal by name.
+    pub fn listed(self) -> Result<usize, Refusal> {
+        match self.refusal {
+            0 => Ok(self.length as usize),
+            number => Err(refusal(number, self.position)),
+        }
+    }
+
+    /// What reading a text came to: the sheet's length, or the refusal by name. Here refusal 1 is of a line.
+    pub fn assembled(self) -> Result<usize, Refusal> {
+        match self.refusal {
+            1 => Err(Refusal::TooManyLines { line: self.position }),
+            _ => self.listed(),
+        }
+    }
+}
+
+fn refusal(number: u64, place: u64) -> Refusal {
+    match number {
         1 => Refusal::TooManyCommands { offset: place },
         2 => Refusal::UnknownCode { offset: place },
         3 => Refusal::CutOperand { offset: place },
@@ -165,10 +212,13 @@ fn refusal(raw: RawResult) -> Refusal {
             1 => Space::Program,
             2 => Space::Stack,
             3 => Space::Handler,
+            4 => Space::Buffer,
             _ => panic!("space {place} is not of this interface"),
         }),
         9 => Refusal::Allowance,
-        number => panic!("refusal {number} is not of this interface"),
+        10 => Refusal::BadLine { line: place },
+        11 => Refusal::OperandOutside { line: place },
+        _ => panic!("refusal {number} is not of this interface"),
     }
 }
 

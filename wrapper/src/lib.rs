@@ -2,14 +2,16 @@
 //!
 //! [`Machine`] owns all memory and is the easy way; [`plain`] and [`tagged`] run on memory that the caller lends;
 //! [`page`] makes a page of a job. A start that breaks a limit is a [`Refusal`] and changes nothing; any other run
-//! ends with a [`Stop`].
+//! ends with a [`Stop`]. [`assemble`] makes a sheet of a text, [`list`] a text of a sheet.
 
 mod answer;
 mod machine;
 pub mod sys;
+mod text;
 
 pub use answer::{Refusal, Report, Space, Stop};
 pub use machine::{Atom, Entry, Kind, Line, Machine};
+pub use text::{assemble, assemble_into, assemble_raw, list, list_into, list_raw, SHEET_LIMIT, TEXT_LIMIT};
 
 /// Bytes of the longest page.
 pub const PAGE_LIMIT: usize = sys::PAGE_LIMIT;

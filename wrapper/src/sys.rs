@@ -3,6 +3,10 @@
 /// Bytes of the longest page.
 pub const PAGE_LIMIT: usize = 30_720;
 
+/// Bytes of the longest sheet and of the longest listing.
+pub const SHEET_LIMIT: usize = 36_864;
+pub const TEXT_LIMIT: usize = 106_496;
+
 /// Kinds of lines.
 pub const LINE_NUMBER: i64 = 0;
 pub const LINE_END: i64 = 1;
@@ -26,6 +30,14 @@ pub struct RawResult {
 #[derive(Clone, Copy, Debug, PartialEq, Eq)]
 pub struct RawPage {
     pub status: u64,
+    pub length: u64,
+}
+
+#[repr(C)]
+#[derive(Clone, Copy, Debug, PartialEq, Eq)]
+pub struct RawWritten {
+    pub refusal: u64,
+    pub position: u64,
     pub length: u64,
 }
 
@@ -79,4 +91,18 @@ extern "C" {
     pub fn luvrodan_handler_count(table: *const u8, table_length: usize) -> u64;
 
     pub fn luvrodan_page(job: *const u8, job_length: usize, page: *mut u8, page_length: usize) -> RawPage;
+
+    pub fn luvrodan_assemble(
+        text: *const u8,
+        text_length: usize,
+        sheet: *mut u8,
+        sheet_length: usize,
+    ) -> RawWritten;
+
+    pub fn luvrodan_list(
+        sheet: *const u8,
+        sheet_length: usize,
+        text: *mut u8,
+        text_length: usize,
+    ) -> RawWritten;
 }

@@ -1,8 +1,9 @@
-//! The wrapper's own part: names of refusals and stops, owned memory, pages.
+//! The wrapper's own part: names of refusals and stops, owned memory, pages, texts.
 
 use luvrodan::{
-    handler_count, page, page_into, plain, tagged, Atom, Entry, Kind, Lent, Line, Machine, Refusal,
-    ShortBuffer, Space, Stop, Tags, PAGE_LIMIT, STANDARD_TABLE,
+    assemble, assemble_into, handler_count, list, list_into, page, page_into, plain, tagged, Atom, Entry,
+    Kind, Lent, Line, Machine, Refusal, ShortBuffer, Space, Stop, Tags, PAGE_LIMIT, SHEET_LIMIT,
+    STANDARD_TABLE, TEXT_LIMIT,
 };
 
 const CELLS: [Atom; 2] = [Atom { number: 7, label: 0 }, Atom { number: 5, label: 1 }];
@@ -173,4 +174,52 @@ fn pages() {
     let mut buffer = vec![1; PAGE_LIMIT - 1];
     assert_eq!(page_into(&[], &mut buffer), Err(ShortBuffer));
     assert!(buffer.iter().all(|&byte| byte == 1));
+}
+
+#[test]
+fn texts() {
+    let text = "Push 1\nLoad\nPush 0\nLoad\nAdd\nOutput\n";
+    let bytes = sheet(&[&push(1), &[6], &push(0), &[6, 1, 4]]);
+    assert_eq!(assemble(text).as_ref(), Ok(&bytes));
+    assert_eq!(list(&bytes).as_deref(), Ok(text));
+    let relist = |text| assemble(text).and_then(|sheet| list(&sheet));
+    assert_eq!(relist("Push -007\nBnz -0").as_deref(), Ok("Push -7\nBnz 0\n"));
+    assert_eq!(relist("").as_deref(), Ok(""));
+    let longest = "Push -9223372036854775808\n".repeat(4096);
+    let sheet = assemble(&longest).unwrap();
+    assert_eq!((sheet.len(), longest.len()), (SHEET_LIMIT, TEXT_LIMIT));
+    assert!(list(&sheet).as_ref() == Ok(&longest));
+}
+
+#[test]
+fn lent_buffers() {
+    let short = Err(Refusal::ShortSpace(Space::Buffer));
+    let mut buffer = [1; 6];
+    assert_eq!(assemble_into(b"Bnz -2", &mut buffer[..2]), short);
+    assert_eq!(list_into(&[9, 7, 0], &mut buffer[..5]), short);
+    assert_eq!(buffer, [1; 6]);
+    assert_eq!(assemble_into(b"Bnz -2", &mut buffer[..3]), Ok(3));
+    assert_eq!(buffer, [9, 0xfe, 0xff, 1, 1, 1]);
+    assert_eq!(list_into(&[9, 7, 0], &mut buffer), Ok(6));
+    assert_eq!(&buffer, b"Bnz 7\n");
+}
+
+#[test]
+fn refused_texts() {
+    let refused = |text: &str| assemble(text).unwrap_err();
+    assert_eq!(refused("Add\nadd"), Refusal::BadLine { line: 2 });
+    assert_eq!(refused("Bnz 32768"), Refusal::OperandOutside { line: 1 });
+    assert_eq!(refused(&"Add\n".repeat(4097)), Refusal::TooManyLines { line: 4097 });
+    assert_eq!(list(&[3; 4097]), Err(Refusal::TooManyCommands { offset: 4096 }));
+    assert_eq!(list(&[3, 0]), Err(Refusal::UnknownCode { offset: 1 }));
+    assert_eq!(list(&[3, 9, 0]), Err(Refusal::CutOperand { offset: 1 }));
+    for (refusal, message) in [
+        (refused("\n"), "refused 10 1: line 1 is not a command with its operands"),
+        (refused("Add\nBnz -32769"), "refused 11 2: line 2 has an operand outside its command's range"),
+        (refused(&"Add\n".repeat(5000)), "refused 1 4097: line 4097 is one too many"),
+        (assemble_into(b"Add", &mut []).unwrap_err(), "refused 8 4: the buffer is too short"),
+        (list(&[12]).unwrap_err(), "refused 2 0"),
+    ] {
+        assert_eq!(refusal.to_string(), message);
+    }
 }

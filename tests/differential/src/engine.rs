@@ -1,8 +1,9 @@
 //! The proved engines, through the wrapper.
 
 use crate::backend::{Answer, Backend};
-use luvrodan::sys::RawResult;
-use luvrodan::Tags;
+use crate::text::{Texts, Written};
+use luvrodan::sys::{RawResult, RawWritten};
+use luvrodan::{Refusal, Tags};
 use model::engine::Lent;
 
 pub struct Engine;
@@ -62,5 +63,26 @@ impl Backend for Engine {
             Ok(length) => (0, length as u64),
             Err(luvrodan::ShortBuffer) => (1, luvrodan::PAGE_LIMIT as u64),
         }
+    }
+}
+
+/// The answer's words, once its name says the same.
+fn written(raw: RawWritten, named: Result<usize, Refusal>) -> Written {
+    match named {
+        Ok(length) => assert_eq!((raw.refusal, raw.length), (0, length as u64)),
+        Err(refusal) => assert_eq!((refusal.number(), refusal.place()), (raw.refusal, raw.position)),
+    }
+    [raw.refusal, raw.position, raw.length]
+}
+
+impl Texts for Engine {
+    fn assemble(&self, text: &[u8], buffer: &mut [u8]) -> Written {
+        let raw = luvrodan::assemble_raw(text, buffer);
+        written(raw, raw.assembled())
+    }
+
+    fn list(&self, sheet: &[u8], buffer: &mut [u8]) -> Written {
+        let raw = luvrodan::list_raw(sheet, buffer);
+        written(raw, raw.listed())
     }
 }

@@ -353,7 +353,7 @@ impl Builder<'_> {
     }
 }
 
-fn any_command(random: &mut Random) -> Command {
+pub fn any_command(random: &mut Random) -> Command {
     match random.below(11) {
         0 => Add,
         1 => Sub,
@@ -403,7 +403,7 @@ pub fn commands(random: &mut Random, cells: usize) -> Vec<Command> {
 }
 
 /// Damages bytes: one changed, inserted, removed, or the end cut off.
-fn damage(random: &mut Random, bytes: &mut Vec<u8>, near: &[u8]) {
+pub fn damage(random: &mut Random, bytes: &mut Vec<u8>, near: &[u8]) {
     let at = random.below(bytes.len() + 1);
     let byte = if random.percent(80) { random.pick(near) } else { random.word() as u8 };
     match random.below(4) {
@@ -638,14 +638,18 @@ pub fn rule_memory(random: &mut Random, table: &[u8], first: Option<Command>) ->
 
 // ---- starts --------------------------------------------------------------------------------------------------------
 
-/// A space that needs so many words: mostly enough, in a few cases one or more short.
-fn space(random: &mut Random, needs: usize) -> Vec<i64> {
-    let length = match random.weighted(&[30, 67, 2, 1]) {
+/// The length of a space that needs so much: mostly enough, in a few cases one or more short.
+pub fn length(random: &mut Random, needs: usize) -> usize {
+    match random.weighted(&[30, 67, 2, 1]) {
         0 => needs,
         1 => needs + random.between(1, 7),
         2 => needs.saturating_sub(1),
         _ => random.below(needs + 1),
-    };
+    }
+}
+
+fn space(random: &mut Random, needs: usize) -> Vec<i64> {
+    let length = length(random, needs);
     random.words(length)
 }
 

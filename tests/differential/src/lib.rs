@@ -1,5 +1,6 @@
 //! Random and damaged starts, from a seed. [`compare`] holds an engine to the model in everything that a caller can
-//! see; [`privacy`] looks for two runs that tell a reader what it may not know.
+//! see; [`privacy`] looks for two runs that tell a reader what it may not know; [`text`] holds the reader and the lister
+//! of sheets in text to the model.
 
 pub mod backend;
 pub mod compare;
@@ -10,3 +11,4 @@ pub mod privacy;
 pub mod random;
 pub mod shrink;
 pub mod tally;
+pub mod text;

@@ -1,23 +1,17 @@
-//! `differential [WHAT] [SEED] [COUNT] [FIRST]`: WHAT is `engines` (default: engines against the model) or `privacy`.
-//! A failing case prints its seed and number; COUNT 1 with FIRST that number makes it again alone.
-
-use differential::backend::Backend;
-use differential::compare::compare_case;
-use differential::privacy::{privacy_case, Pairs};
-use differential::tally::Tally;
-use std::process::ExitCode;
-use std::time::Instant;
-
-#[cfg(feature = "engine")]
-fn engine() -> Box<dyn Backend> {
-    Box::new(differential::engine::Engine)
-}
+//! `differential [WHAT] [SEED] [COUNT] [FIRST]`: WHAT is `engines` (default: engines against the model), `privacy` or
+//! `text` (reader and lister against the model, first at the edges). A failing case prints its seed and number; COUNT 1
+//! with FIRST that number makes it again alone.
 
 #[cfg(not(feature = "engine"))]
-fn engine() -> Box<dyn Backend> {
-    eprintln!("built without the feature `engine`: the model is held against itself");
-    Box::new(differential::backend::Itself)
-}
+use differential::backend::Itself as Engine;
+use differential::compare::compare_case;
+#[cfg(feature = "engine")]
+use differential::engine::Engine;
+use differential::privacy::{privacy_case, Pairs};
+use differential::tally::Tally;
+use differential::text::{self, edge_cases, text_case};
+use std::process::ExitCode;
+use std::time::Instant;
 
 /// Runs the cases until one fails; then what was missed, unless it was a look at a few cases only.
 fn cases(first: u64, count: u64, mut case: impl FnMut(u64) -> Result<(), String>) -> Result<(), String> {
@@ -41,24 +35,35 @@ fn main() -> ExitCode {
     let number = |index: usize, other| words.get(index).map_or(Ok(other), |word| word.parse::<u64>());
     let what = words.first().map_or("engines", String::as_str);
     let (Ok(seed), Ok(count), Ok(first)) = (number(1, 1), number(2, 200_000), number(3, 0)) else {
-        eprintln!("usage: differential [engines|privacy] [SEED] [COUNT] [FIRST]");
+        eprintln!("usage: differential [engines|privacy|text] [SEED] [COUNT] [FIRST]");
         return ExitCode::from(2);
     };
-    let backend = engine();
+    if cfg!(not(feature = "engine")) {
+        eprintln!("built without the feature `engine`: the model is held against itself");
+    }
     let outcome = match what {
         "engines" => {
             let mut tally = Tally::default();
-            let outcome = cases(first, count, |case| compare_case(&*backend, seed, case, &mut tally));
+            let outcome = cases(first, count, |case| compare_case(&Engine, seed, case, &mut tally));
             tally.print();
             outcome.and_then(|()| reached(count, tally.missing()))
         }
         "privacy" => {
             let mut pairs = Pairs::default();
-            let outcome = cases(first, count, |case| privacy_case(&*backend, seed, case, &mut pairs));
+            let outcome = cases(first, count, |case| privacy_case(&Engine, seed, case, &mut pairs));
             pairs.print();
             outcome.and_then(|()| reached(count, pairs.missing()))
         }
-        _ => Err(format!("{what}: neither engines nor privacy")),
+        "text" => {
+            let mut tally = text::tally::Tally::default();
+            let outcome = edge_cases(&Engine).and_then(|edges| {
+                println!("{edges} cases at the edges");
+                cases(first, count, |case| text_case(&Engine, seed, case, &mut tally))
+            });
+            tally.print();
+            outcome.and_then(|()| reached(count, tally.missing()))
+        }
+        _ => Err(format!("{what}: neither engines nor privacy nor text")),
     };
     match outcome {
         Ok(()) => ExitCode::SUCCESS,

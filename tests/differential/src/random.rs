@@ -58,4 +58,9 @@ impl Random {
     pub fn words(&mut self, count: usize) -> Vec<i64> {
         (0..count).map(|_| self.word() as i64).collect()
     }
+
+    /// Bytes to lend.
+    pub fn bytes(&mut self, count: usize) -> Vec<u8> {
+        (0..count).map(|_| self.word() as u8).collect()
+    }
 }

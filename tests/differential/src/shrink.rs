@@ -1,4 +1,4 @@
-//! Makes a failing start smaller, as long as it still fails.
+//! Makes a failing case smaller, as long as it still fails.
 
 use crate::generate::Start;
 use model::rules::STANDARD;
@@ -44,11 +44,15 @@ fn smaller(start: &Start, handler_count: &impl Fn(&[u8]) -> u64) -> Vec<Start> {
     starts
 }
 
-/// The smallest start that was found on the way down from a failing one.
-pub fn shrink(start: Start, handler_count: impl Fn(&[u8]) -> u64, fails: impl Fn(&Start) -> bool) -> Start {
-    let mut least = start;
-    while let Some(next) = smaller(&least, &handler_count).into_iter().find(&fails) {
+/// The smallest that was found on the way down from a failing case, by steps to the first smaller one that fails.
+pub fn descend<T>(failing: T, smaller: impl Fn(&T) -> Vec<T>, fails: impl Fn(&T) -> bool) -> T {
+    let mut least = failing;
+    while let Some(next) = smaller(&least).into_iter().find(&fails) {
         least = next;
     }
     least
+}
+
+pub fn shrink(start: Start, handler_count: impl Fn(&[u8]) -> u64, fails: impl Fn(&Start) -> bool) -> Start {
+    descend(start, |start| smaller(start, &handler_count), fails)
 }

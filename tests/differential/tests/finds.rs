@@ -4,6 +4,7 @@ use differential::backend::{Fault, Faulty, Itself, FAULTS};
 use differential::compare::compare_case;
 use differential::privacy::{privacy_case, Pairs};
 use differential::tally::Tally;
+use differential::text::{edge_cases, faults, tally, text_case};
 
 const SEED: u64 = 7;
 
@@ -58,5 +59,30 @@ fn every_leak_is_found() {
 fn every_false_end_is_found() {
     for fault in [Fault::EndUnlabelled, Fault::EndWhereSpent, Fault::EndWithoutRoom] {
         find_pair(fault, " do not tell their runs' ends: ");
+    }
+}
+
+#[test]
+fn the_model_reads_and_lists_as_itself() {
+    edge_cases(&Itself).unwrap();
+    let mut tally = tally::Tally::default();
+    for case in 0..20_000 {
+        text_case(&Itself, SEED, case, &mut tally).unwrap();
+    }
+    assert_eq!(tally.missing(), Vec::<String>::new());
+}
+
+#[test]
+fn every_fault_of_text_is_found() {
+    for (way, fault) in faults::faults() {
+        let faulty = faults::Faulty(way, fault);
+        let mut tally = tally::Tally::default();
+        let by_chance = (0..20_000).find_map(|case| text_case(&faulty, SEED, case, &mut tally).err());
+        for found in [by_chance, edge_cases(&faulty).err()] {
+            println!(
+                "{way:?} {fault:?}: {}",
+                found.unwrap_or_else(|| panic!("{way:?} {fault:?} is not found"))
+            );
+        }
     }
 }

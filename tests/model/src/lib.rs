@@ -1,10 +1,11 @@
-//! The labelled sheet machine in plain Rust, written from document 01 and document 02's changes U1 and U2 alone, to hold
+//! The labelled sheet machine in plain Rust, written from document 01 and document 02's changes U1 to U3 alone, to hold
 //! the proved engines against. docs/MANUAL.md describes the machine in other words.
 //!
 //! It shares nothing with them: sheets are decoded to an enum, rule tables to trees, the stack is a `Vec`. What
 //! document 01 leaves open, the handler's own commands, comes in from outside as words, which [`kernel`] runs and
 //! [`engine`] holds to the table's meaning at every fault.
 
+pub mod edges;
 pub mod engine;
 pub mod kernel;
 pub mod machine;
@@ -12,8 +13,9 @@ pub mod page;
 pub mod rules;
 pub mod sample;
 pub mod sheet;
+pub mod text;
 
-/// A start that is refused: document 01's number and place.
+/// What is refused: document 01's number and place, or document 02's.
 #[derive(Clone, Copy, Debug, PartialEq, Eq)]
 pub struct Refusal {
     pub number: u64,

@@ -22,7 +22,27 @@ pub enum Command {
 
 use Command::*;
 
+/// Each command once, with operand 0 where it has one.
+pub const EACH: [Command; 11] = [Add, Sub, Pop, Output, Push(0), Load, Store, Jump, Bnz(0), Call, Ret];
+
 impl Command {
+    /// The command's name, as document 01 spells it.
+    pub fn name(self) -> &'static str {
+        match self {
+            Add => "Add",
+            Sub => "Sub",
+            Pop => "Pop",
+            Output => "Output",
+            Push(_) => "Push",
+            Load => "Load",
+            Store => "Store",
+            Jump => "Jump",
+            Bnz(_) => "Bnz",
+            Call => "Call",
+            Ret => "Ret",
+        }
+    }
+
     /// The command's code on sheets, in rule tables and in the rule memory.
     pub fn code(self) -> u8 {
         match self {

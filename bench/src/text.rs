@@ -1,0 +1,154 @@
+//! Sheets in text, read and listed in straightforward safe Rust: into a `Vec` first, so that a refusal writes nothing. Of
+//! the shapes that were tried these are the fastest. Slower to read are lines or names that are cut out before they are
+//! compared, and a pass that only checks; slower to list are a pass for the checks or the length, and newlines apart from
+//! the names.
+
+use differential::text::{written, Texts, Written};
+use model::sheet::COMMANDS;
+use model::Refusal;
+
+pub struct Straightforward;
+
+impl Texts for Straightforward {
+    fn assemble(&self, text: &[u8], buffer: &mut [u8]) -> Written {
+        written(assemble(text, buffer))
+    }
+
+    fn list(&self, sheet: &[u8], buffer: &mut [u8]) -> Written {
+        written(list(sheet, buffer))
+    }
+}
+
+/// The names in the order of their codes, each with what follows it: the space before an operand, or the line's end.
+const NAMES: [&[u8]; 11] = [
+    b"Add\n",
+    b"Sub\n",
+    b"Pop\n",
+    b"Output\n",
+    b"Push ",
+    b"Load\n",
+    b"Store\n",
+    b"Jump\n",
+    b"Bnz ",
+    b"Call\n",
+    b"Ret\n",
+];
+
+const MALFORMED: u64 = 10;
+const OUTSIDE: u64 = 11;
+
+/// Writes to the buffer's start what was made, if there is room: its length.
+fn hand_over(made: &[u8], buffer: &mut [u8]) -> Result<usize, Refusal> {
+    buffer.get_mut(..made.len()).ok_or(Refusal::new(8, 4))?.copy_from_slice(made);
+    Ok(made.len())
+}
+
+#[inline(never)]
+fn assemble(text: &[u8], buffer: &mut [u8]) -> Result<usize, Refusal> {
+    // The shortest line of a Push, which gives nine bytes, has six.
+    let mut sheet = Vec::with_capacity(2 * text.len());
+    let (mut rest, mut line) = (text, 0);
+    while !rest.is_empty() {
+        line += 1;
+        if line > COMMANDS {
+            return Err(Refusal::new(1, line));
+        }
+        rest = read_line(rest, &mut sheet).map_err(|number| Refusal::new(number, line))?;
+    }
+    hand_over(&sheet, buffer)
+}
+
+/// Reads the first line: what follows it, or its refusal's number.
+fn read_line<'a>(text: &'a [u8], sheet: &mut Vec<u8>) -> Result<&'a [u8], u64> {
+    let named = |(name, code): (&&[u8], u8)| Some((text.strip_prefix(name.trim_ascii_end())?, code));
+    let (rest, code) = NAMES.iter().zip(1..).find_map(named).ok_or(MALFORMED)?;
+    sheet.push(code);
+    match code {
+        5 => {
+            let (number, rest) = operand(rest).ok_or(MALFORMED)?;
+            sheet.extend(i64::try_from(number).map_err(|_| OUTSIDE)?.to_le_bytes());
+            Ok(rest)
+        }
+        9 => {
+            let (number, rest) = operand(rest).ok_or(MALFORMED)?;
+            sheet.extend(i16::try_from(number).map_err(|_| OUTSIDE)?.to_le_bytes());
+            Ok(rest)
+        }
+        _ => after_end(rest).ok_or(MALFORMED),
+    }
+}
+
+/// The operand that ends a line, and what follows the line. Of a size of 2^64 and above comes 2^64 - 1, which is outside
+/// any range too.
+fn operand(text: &[u8]) -> Option<(i128, &[u8])> {
+    let word = text.strip_prefix(b" ")?;
+    let digits = word.strip_prefix(b"-").unwrap_or(word);
+    let (mut size, mut count) = (0u64, 0);
+    while let Some(digit @ b'0'..=b'9') = digits.get(count) {
+        size = size.saturating_mul(10).saturating_add((digit - b'0').into());
+        count += 1;
+    }
+    if count == 0 {
+        return None;
+    }
+    let number = if digits.len() < word.len() { -i128::from(size) } else { size.into() };
+    Some((number, after_end(&digits[count..])?))
+}
+
+/// What follows the line's end, which the text's end is too.
+fn after_end(text: &[u8]) -> Option<&[u8]> {
+    match text {
+        [] => Some(text),
+        [b'\n', rest @ ..] => Some(rest),
+        _ => None,
+    }
+}
+
+#[inline(never)]
+fn list(sheet: &[u8], buffer: &mut [u8]) -> Result<usize, Refusal> {
+    // The longest line for one byte is Output's.
+    let mut text = Vec::with_capacity(7 * sheet.len());
+    let (mut offset, mut count) = (0, 0);
+    while let Some(&code) = sheet.get(offset) {
+        if count == COMMANDS {
+            return Err(Refusal::new(1, offset));
+        }
+        let name = NAMES.get(usize::from(code).wrapping_sub(1)).ok_or(Refusal::new(2, offset))?;
+        text.extend_from_slice(name);
+        let rest = &sheet[offset + 1..];
+        let cut = Refusal::new(3, offset);
+        match code {
+            5 => {
+                put_operand(i64::from_le_bytes(*rest.first_chunk().ok_or(cut)?), &mut text);
+                offset += 9;
+            }
+            9 => {
+                put_operand(i16::from_le_bytes(*rest.first_chunk().ok_or(cut)?).into(), &mut text);
+                offset += 3;
+            }
+            _ => offset += 1,
+        }
+        count += 1;
+    }
+    hand_over(&text, buffer)
+}
+
+/// A number that ends a line.
+fn put_operand(number: i64, text: &mut Vec<u8>) {
+    let mut digits = [0; 20];
+    let (mut rest, mut start) = (number.unsigned_abs(), digits.len());
+    loop {
+        start -= 1;
+        digits[start] = b'0' + (rest % 10) as u8;
+        rest /= 10;
+        if rest == 0 {
+            break;
+        }
+    }
+    if number < 0 {
+        start -= 1;
+        digits[start] = b'-';
+    }
+    text.extend_from_slice(&digits[start..]);
+    text.push(b'\n');
+}

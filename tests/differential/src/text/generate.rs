@@ -1,0 +1,129 @@
+//! Makes texts to read and sheets to list, some of them damaged.
+
+use super::{Case, Way};
+use crate::generate::{any_command, damage, length};
+use crate::random::Random;
+use model::sheet::{encode, Command, Command::*};
+
+pub fn case(random: &mut Random) -> Case {
+    let (way, input) =
+        if random.percent(65) { (Way::Read, text(random)) } else { (Way::List, sheet(random)) };
+    let length = length(random, way.whole(&input).len());
+    Case { way, input, buffer: random.bytes(length) }
+}
+
+fn commands(random: &mut Random) -> Vec<Command> {
+    let count = match random.weighted(&[3, 82, 14, 1]) {
+        0 => 0,
+        1 => random.between(1, 8),
+        2 => random.between(9, 80),
+        _ => random.between(4095, 4098),
+    };
+    (0..count).map(|_| command(random)).collect()
+}
+
+fn command(random: &mut Random) -> Command {
+    match any_command(random) {
+        Bnz(_) if random.percent(40) => Bnz(random.pick(&[i16::MIN, i16::MIN + 1, i16::MAX - 1, i16::MAX])),
+        Bnz(_) if random.percent(40) => Bnz(random.word() as i16),
+        command => command,
+    }
+}
+
+fn sheet(random: &mut Random) -> Vec<u8> {
+    let mut sheet = encode(&commands(random));
+    if random.percent(15) {
+        damage(random, &mut sheet, &[0, 1, 2, 3, 4, 5, 6, 7, 8, 9, 10, 11, 12]);
+    }
+    sheet
+}
+
+/// A numeral for a number, the normal one or not.
+fn numeral(random: &mut Random, number: i128) -> String {
+    let zeros = match random.weighted(&[85, 10, 4, 1]) {
+        0 => 0,
+        1 => random.between(1, 3),
+        2 => random.between(4, 30),
+        _ => random.between(100, 600),
+    };
+    let minus = number < 0 || number == 0 && random.percent(20);
+    format!("{}{}{}", if minus { "-" } else { "" }, "0".repeat(zeros), number.unsigned_abs())
+}
+
+/// A numeral for a number outside the command's range, next to it in some cases.
+fn outside(random: &mut Random, command: Command) -> String {
+    let next: i128 = if matches!(command, Bnz(_)) { 1 << 15 } else { 1 << 63 };
+    let wraps = 2 * next * random.between(1, 9) as i128;
+    match random.weighted(&[30, 30, 10, 10, 10, 10]) {
+        0 => numeral(random, next),
+        1 => numeral(random, -next - 1),
+        2 => numeral(random, wraps),
+        3 => numeral(random, -wraps),
+        4 => random.pick(&["9", "-9"]).to_string() + &"0".repeat(random.between(20, 600)),
+        _ => random.pick(&["", "-"]).to_string() + &"9".repeat(random.between(20, 600)),
+    }
+}
+
+fn line(random: &mut Random, command: Command) -> Vec<u8> {
+    let operand = match command {
+        Push(number) => numeral(random, number.into()),
+        Bnz(distance) => numeral(random, distance.into()),
+        _ => return command.name().into(),
+    };
+    format!("{} {operand}", command.name()).into()
+}
+
+/// A line that is mostly refused.
+fn faulty_line(random: &mut Random) -> Vec<u8> {
+    let command = if random.percent(60) { random.pick(&[Push(-10), Bnz(7)]) } else { command(random) };
+    let name = command.name();
+    let mut line = line(random, command);
+    match random.weighted(&[30, 8, 12, 12, 12, 12, 12, 2]) {
+        0 => line = format!("{name} {}", outside(random, command)).into(),
+        // one operand too many
+        1 => line.extend(format!(" {}", outside(random, command)).bytes()),
+        2 => line.extend(random.pick(&[" ", "  ", "\t", "\r", " 1", " -", "-", "\0", ";"]).bytes()),
+        // what stands before the operand
+        3 if line.len() > name.len() => {
+            let other = random.pick(&["", "  ", "\t", "\r", " +", " -", " --", "-", "\0", " \0"]);
+            line.splice(name.len()..=name.len(), other.bytes());
+        }
+        // a letter in the other case
+        3 | 4 => line[random.below(name.len())] ^= 0x20,
+        // a part of the name, or more than the name
+        5 if random.percent(50) => {
+            line.drain(random.below(name.len())..name.len());
+        }
+        5 => {
+            let more = random.pick(&["s", "x", "Add", "0", "\t", "-"]);
+            line.splice(name.len()..name.len(), more.bytes());
+        }
+        6 => damage(random, &mut line, b" -+\t\r09:/aA\0\xb1"),
+        _ => line.clear(),
+    }
+    line
+}
+
+fn text(random: &mut Random) -> Vec<u8> {
+    let mut lines: Vec<Vec<u8>> = Vec::new();
+    for command in commands(random) {
+        lines.push(line(random, command));
+    }
+    while !lines.is_empty() && random.percent(35) {
+        let last = lines.len() - 1;
+        let at =
+            if random.percent(35) { last.saturating_sub(random.below(3)) } else { random.below(last + 1) };
+        lines[at] = faulty_line(random);
+    }
+    let mut text = lines.join(&b'\n');
+    let end = match random.weighted(&[70, 25, 5]) {
+        0 if !lines.is_empty() => "\n",
+        0 | 1 => "",
+        _ => "\n\n",
+    };
+    text.extend(end.bytes());
+    if random.percent(8) {
+        damage(random, &mut text, b" -+\n\r\t09:/AaPuBnz\0\xff");
+    }
+    text
+}
