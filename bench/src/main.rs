@@ -330,18 +330,18 @@ fn convert_times(converters: &[Converter], convert: Convert, inputs: &[Vec<u8>])
 
 fn print_texts() {
     let mut converters = engine::converters();
-    converters.push((SAFE, &text::Straightforward));
+    converters.extend([(SAFE, &text::Straightforward as &dyn Texts), (FAST, &text::Fast)]);
     let names = converters.iter().map(|&(name, _)| name);
-    let columns: Vec<&str> = names.chain(["times as long"]).collect();
+    let columns: Vec<&str> = names.chain(["times safe", "times fast"]).collect();
     let table = |title: &str, convert: Convert, input: fn(&[sheet::Command]) -> Vec<u8>| {
         header(title, &columns);
         for (name, commands) in texts() {
             for lines in [16, 256, 4096] {
                 let inputs: Vec<Vec<u8>> = commands.chunks(lines).map(input).collect();
                 let times = convert_times(&converters, convert, &inputs);
-                let ratio = times[0] / times[times.len() - 1];
+                let ratios = times[times.len() - 2..].iter().map(|time| times[0] / time);
                 let line_times = times.iter().map(|time| time / commands.len() as f64);
-                row(format!("{name}, {lines} lines"), line_times.chain([ratio]).collect());
+                row(format!("{name}, {lines} lines"), line_times.chain(ratios).collect());
             }
         }
     };

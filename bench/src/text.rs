@@ -1,15 +1,29 @@
-//! Sheets in text, read and listed in straightforward safe Rust: into a `Vec` first, so that a refusal writes nothing. Of
-//! the shapes that were tried these are the fastest. Slower to read are lines or names that are cut out before they are
-//! compared, and a pass that only checks; slower to list are a pass for the checks or the length, and newlines apart from
-//! the names.
+//! Sheets in text, read and listed in safe Rust: into a `Vec` first, so that a refusal writes nothing.
 
 use differential::text::{written, Texts, Written};
-use model::sheet::COMMANDS;
+use model::sheet::{decode, Command::*, COMMANDS};
+use model::text::lines;
 use model::Refusal;
 
+/// What one writes first: lines and words are cut out, names matched, and a sheet is decoded before it is listed.
 pub struct Straightforward;
 
 impl Texts for Straightforward {
+    fn assemble(&self, text: &[u8], buffer: &mut [u8]) -> Written {
+        written(assemble_by_words(text, buffer))
+    }
+
+    fn list(&self, sheet: &[u8], buffer: &mut [u8]) -> Written {
+        written(list_commands(sheet, buffer))
+    }
+}
+
+/// The fastest of the shapes that were tried. Slower to read are lines or names that are cut out before they are
+/// compared, and a pass that only checks; slower to list are a pass for the checks or the length, and newlines apart from
+/// the names.
+pub struct Fast;
+
+impl Texts for Fast {
     fn assemble(&self, text: &[u8], buffer: &mut [u8]) -> Written {
         written(assemble(text, buffer))
     }
@@ -34,6 +48,11 @@ const NAMES: [&[u8]; 11] = [
     b"Ret\n",
 ];
 
+/// Room for each byte of a text: the shortest line of a Push, which gives nine bytes, has six. And for each byte of a
+/// sheet: the longest line for one is Output's.
+const SHEET_ROOM: usize = 2;
+const TEXT_ROOM: usize = 7;
+
 const MALFORMED: u64 = 10;
 const OUTSIDE: u64 = 11;
 
@@ -44,9 +63,82 @@ fn hand_over(made: &[u8], buffer: &mut [u8]) -> Result<usize, Refusal> {
 }
 
 #[inline(never)]
+fn assemble_by_words(text: &[u8], buffer: &mut [u8]) -> Result<usize, Refusal> {
+    let mut sheet = Vec::with_capacity(SHEET_ROOM * text.len());
+    for (line, number) in lines(text).zip(1..) {
+        if number > COMMANDS {
+            return Err(Refusal::new(1, number));
+        }
+        read_words(line, &mut sheet).map_err(|refusal| Refusal::new(refusal, number))?;
+    }
+    hand_over(&sheet, buffer)
+}
+
+/// Reads a line's command, or gives its refusal's number.
+fn read_words(line: &[u8], sheet: &mut Vec<u8>) -> Result<(), u64> {
+    let mut words = line.split(|&byte| byte == b' ');
+    let code = match words.next().unwrap_or_default() {
+        b"Add" => 1,
+        b"Sub" => 2,
+        b"Pop" => 3,
+        b"Output" => 4,
+        b"Push" => 5,
+        b"Load" => 6,
+        b"Store" => 7,
+        b"Jump" => 8,
+        b"Bnz" => 9,
+        b"Call" => 10,
+        b"Ret" => 11,
+        _ => return Err(MALFORMED),
+    };
+    sheet.push(code);
+    let operand = words.next().map(|word| number(word).ok_or(MALFORMED)).transpose()?;
+    match (code, operand, words.next()) {
+        (5, Some(number), None) => {
+            sheet.extend(i64::try_from(number).map_err(|_| OUTSIDE)?.to_le_bytes());
+        }
+        (9, Some(number), None) => {
+            sheet.extend(i16::try_from(number).map_err(|_| OUTSIDE)?.to_le_bytes());
+        }
+        (5 | 9, ..) | (_, Some(_), _) => return Err(MALFORMED),
+        _ => {}
+    }
+    Ok(())
+}
+
+/// The number that a word is. Of a size of 2^64 and above comes 2^64 - 1, which is outside any range too.
+fn number(word: &[u8]) -> Option<i128> {
+    let digits = word.strip_prefix(b"-").unwrap_or(word);
+    if digits.is_empty() || !digits.iter().all(u8::is_ascii_digit) {
+        return None;
+    }
+    let more = |size: u64, digit: &u8| size.saturating_mul(10).saturating_add((digit - b'0').into());
+    let size = i128::from(digits.iter().fold(0, more));
+    Some(if digits.len() < word.len() { -size } else { size })
+}
+
+#[inline(never)]
+fn list_commands(sheet: &[u8], buffer: &mut [u8]) -> Result<usize, Refusal> {
+    let mut text = Vec::with_capacity(TEXT_ROOM * sheet.len());
+    for command in decode(sheet)? {
+        text.extend_from_slice(command.name().as_bytes());
+        let operand = match command {
+            Push(number) => number,
+            Bnz(distance) => distance.into(),
+            _ => {
+                text.push(b'\n');
+                continue;
+            }
+        };
+        text.push(b' ');
+        put_operand(operand, &mut text);
+    }
+    hand_over(&text, buffer)
+}
+
+#[inline(never)]
 fn assemble(text: &[u8], buffer: &mut [u8]) -> Result<usize, Refusal> {
-    // The shortest line of a Push, which gives nine bytes, has six.
-    let mut sheet = Vec::with_capacity(2 * text.len());
+    let mut sheet = Vec::with_capacity(SHEET_ROOM * text.len());
     let (mut rest, mut line) = (text, 0);
     while !rest.is_empty() {
         line += 1;
@@ -106,8 +198,7 @@ fn after_end(text: &[u8]) -> Option<&[u8]> {
 
 #[inline(never)]
 fn list(sheet: &[u8], buffer: &mut [u8]) -> Result<usize, Refusal> {
-    // The longest line for one byte is Output's.
-    let mut text = Vec::with_capacity(7 * sheet.len());
+    let mut text = Vec::with_capacity(TEXT_ROOM * sheet.len());
     let (mut offset, mut count) = (0, 0);
     while let Some(&code) = sheet.get(offset) {
         if count == COMMANDS {

@@ -1,12 +1,12 @@
 //! What is measured gives the model's answers, and the workloads go on as long as they are measured.
 
-use bench::text::Straightforward;
+use bench::text::{Fast, Straightforward};
 use bench::workloads::all;
 use bench::{fast, safe, tags};
 use differential::backend::{Answer, Backend, Itself};
 use differential::compare::compare_case;
 use differential::tally::Tally;
-use differential::text::{edge_cases, tally, text_case};
+use differential::text::{edge_cases, tally, text_case, Texts};
 use model::engine::{Lent, ALLOWANCE};
 use model::machine::Stop;
 use model::rules::Table;
@@ -64,12 +64,14 @@ fn interpreters_agree_with_the_model() {
 
 #[test]
 fn texts_agree_with_the_model() {
-    edge_cases(&Straightforward).unwrap();
-    let mut tally = tally::Tally::default();
-    for case in 0..20_000 {
-        text_case(&Straightforward, 3, case, &mut tally).unwrap();
+    for texts in [&Straightforward as &dyn Texts, &Fast] {
+        edge_cases(texts).unwrap();
+        let mut tally = tally::Tally::default();
+        for case in 0..20_000 {
+            text_case(texts, 3, case, &mut tally).unwrap();
+        }
+        assert_eq!(tally.missing(), [""; 0]);
     }
-    assert_eq!(tally.missing(), [""; 0]);
 }
 
 /// A sum that grows would stop them.

@@ -134,50 +134,14 @@ pub fn name_of(code: u64) -> Name
     }
 }
 
-// The code of a name's word; 0 where no command has that name.
+// The code of a name's word; 0 where no command has that name. It is guessed, and the guess is tested: sooner done than ten tests.
 pub fn code_of(word: u64) -> u64
     ensures { λ r. ⌜ r ≡ codeNamed word ⌝ }
 {
-    let guess = GUESSES[((word / 256 + word / 32768) % 32) as usize];
+    let guess = names::GUESSES[((word / 256 + word / 32768) % 32) as usize];
     let name = name_of(guess);
     if name.word == word { guess } else { 0 }
 }
-
-// By some bits of a word, the code of the one command whose name has these: a look and a test in place of ten tests.
-const GUESSES: [u64; 32] = [
-    0,
-    0,
-    0,
-    0,
-    0,
-    0,
-    1,
-    0,
-    0,
-    11,
-    0,
-    0,
-    0,
-    0,
-    10,
-    3,
-    7,
-    0,
-    9,
-    0,
-    0,
-    4,
-    0,
-    8,
-    0,
-    0,
-    0,
-    2,
-    0,
-    5,
-    0,
-    6,
-];
 
 // Is a number in the range of a code's operand? No number is where there is no operand.
 pub fn takes(code: u64, number: i64) -> bool

@@ -1,4 +1,4 @@
-// The names of the commands as words (`Name`): those of `description` in specs/Command.antt.
+// The names of the commands as words (`Name`): those of `description` in specs/Command.antt. At the end, how their codes are guessed.
 // Add
 pub const ADD: u64 = 0x416464;
 
@@ -31,3 +31,39 @@ pub const CALL: u64 = 0x43616c6c;
 
 // Ret
 pub const RET: u64 = 0x526574;
+
+// For each remainder modulo 32 of w / 2^8 + w / 2^15, the code of the one command whose name's word w has it, or 0.
+pub const GUESSES: [u64; 32] = [
+    0,
+    0,
+    0,
+    0,
+    0,
+    0,
+    1,
+    0,
+    0,
+    11,
+    0,
+    0,
+    0,
+    0,
+    10,
+    3,
+    7,
+    0,
+    9,
+    0,
+    0,
+    4,
+    0,
+    8,
+    0,
+    0,
+    0,
+    2,
+    0,
+    5,
+    0,
+    6,
+];
