@@ -105,9 +105,9 @@ pub(crate) fn of_written(written: Written) -> LuvrodanWritten
             position: 0,
             length: length as u64,
         },
-        Written::Refused(r) => LuvrodanWritten {
-            refusal: r.code,
-            position: r.position as u64,
+        Written::Refused(refusal) => LuvrodanWritten {
+            refusal: refusal.code,
+            position: refusal.position as u64,
             length: 0,
         },
     }
