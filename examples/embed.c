@@ -1,6 +1,7 @@
 /*
- * Prints the page of a sheet that adds a public and a secret number, for a reader who is cleared for owner 0. Its last
- * line, `end 00000000`, says that nothing is missing. docs/MANUAL.md has the bytes of jobs.
+ * Prints the page of a sheet that adds a public and a secret number, for a reader who is cleared for owner 0. All its
+ * lines stand on page 0, and the last, `0 end 00000000`, says that nothing is missing. docs/MANUAL.md has the bytes of
+ * jobs.
  *
  *     rt staticlib exports
  *     cc -I include examples/embed.c target/staticlib/libexports.a -o embed

@@ -30,7 +30,8 @@ extern "C" {
 #define LUVRODAN_RULE_MEMORY_WORDS 7     /* code, P, L1, L2, L3, new place label, result label */
 #define LUVRODAN_PROGRAM_WORDS 8192      /* enough for any sheet: two words a command: code, operand or 0 */
 #define LUVRODAN_HANDLER_WORDS 16384     /* enough for any handler: two words a command */
-#define LUVRODAN_PAGE_LIMIT 30720        /* bytes of the longest page: 1,024 lines, end line included, of at most 30 */
+#define LUVRODAN_PAGE_COUNT 16           /* pages of a run: their numbers are 0 to 15 */
+#define LUVRODAN_PAGE_LIMIT 33792        /* bytes of the longest page: 1,024 lines, end line included, of at most 33 */
 #define LUVRODAN_SHEET_LIMIT 36864       /* bytes of the longest sheet: 4,096 commands of at most 9 */
 #define LUVRODAN_TEXT_LIMIT 106496       /* bytes of the longest listing: 4,096 lines, newlines included, of at most 26 */
 
@@ -38,7 +39,7 @@ extern "C" {
 enum {
     LUVRODAN_ACCEPTED = 0,
     LUVRODAN_REFUSED_COMMANDS = 1,       /* a 4,097th command; position: its byte offset, in a text its line, 4,097 */
-    LUVRODAN_REFUSED_CODE = 2,           /* a code that is not 01 to 0b; position: its offset */
+    LUVRODAN_REFUSED_CODE = 2,           /* a code that is not 01 to 0c; position: its offset */
     LUVRODAN_REFUSED_OPERAND = 3,        /* a cut operand; position: the command's offset */
     LUVRODAN_REFUSED_CELLS = 4,          /* runs of cells that differ in length (the shorter), or over 1,024 (1,024) */
     LUVRODAN_REFUSED_LABEL = 5,          /* a label word outside 0 to 2^32-1; position: the first such cell */
@@ -47,7 +48,8 @@ enum {
     LUVRODAN_REFUSED_SPACE = 8,          /* too short: 1 program, 2 stack, 3 handler, the first such; 4 output buffer */
     LUVRODAN_REFUSED_FUEL = 9,           /* an allowance over 1,000,000; 0 */
     LUVRODAN_REFUSED_LINE = 10,          /* not a command and its operands; position: the text's line, from 1 */
-    LUVRODAN_REFUSED_RANGE = 11          /* an operand outside its command's range; position: the text's line, from 1 */
+    LUVRODAN_REFUSED_RANGE = 11,         /* an operand outside its command's range; position: the text's line, from 1 */
+    LUVRODAN_REFUSED_PAGE = 12           /* an OutputTo page over 15; position: the command's offset */
 };
 
 /* Stops (luvrodan_result.stop, where refusal is 0). */
@@ -60,14 +62,14 @@ enum {
     LUVRODAN_STOP_ADDRESS = 5,           /* an address outside the cells */
     LUVRODAN_STOP_DENIED = 6,            /* the rule does not allow the command */
     LUVRODAN_STOP_STACK = 7,             /* the stack is full */
-    LUVRODAN_STOP_OUTPUT = 8,            /* the output space is full: for an Output, or at the end for the end line */
+    LUVRODAN_STOP_OUTPUT = 8,            /* the output space is full: for an Output or OutputTo, or for the end line */
     LUVRODAN_STOP_OVERFLOW = 9           /* a sum or difference outside 64 bits; tested after 6, before 7 and 8 */
 };
 
 /* Kinds of lines (the words of kinds). */
 enum {
-    LUVRODAN_LINE_NUMBER = 0,            /* a number that an Output wrote */
-    LUVRODAN_LINE_END = 1                /* the end of the sheet: the last line, its number 0, its label P */
+    LUVRODAN_LINE_NUMBER = 0,            /* a number that an Output or OutputTo wrote */
+    LUVRODAN_LINE_END = 1                /* the end of the sheet: the last line, its number and page 0, its label P */
 };
 
 /*
@@ -92,19 +94,21 @@ typedef struct {
  * Runs a sheet under the standard rules.
  *
  * values, labels: the cells; Store changes them. program: two words a command. stack: 768 words. numbers,
- * line_labels, kinds: the output space, a number word, a label word and a kind word for each line; the shortest sets
- * how many lines fit.
+ * line_labels, kinds, pages: the output space, a number word, a label word, a kind word and a page word for each line;
+ * the shortest sets how many lines fit. Output writes to page 0, OutputTo to the page that it names; all pages share
+ * the space, and their lines stand in the order in which they were written.
  *
- * A run that comes to the end of the sheet writes an end line and is stop 0; the line is no step, needs no allowance
- * and asks no rule. Without output space for it the run is stop 8, also where the allowance is spent: its place is the
- * number of commands, and all else is as it was. So the last line is an end line exactly if the run is stop 0.
+ * A run that comes to the end of the sheet writes an end line, on page 0, and is stop 0; the line is no step, needs no
+ * allowance and asks no rule. Without output space for it the run is stop 8, also where the allowance is spent: its
+ * place is the number of commands, and all else is as it was. So the last line is an end line exactly if the run is
+ * stop 0.
  *
- * Refusals, in this order: 1, 2, 3 (sheet), 4, 5 (cells), 8 at 1 or 2 (spaces), 9 (allowance). A refused call
- * changes no lent word.
+ * Refusals, in this order: 1, 2, 3, 12 (sheet, at each command from the left), 4, 5 (cells), 8 at 1 or 2 (spaces), 9
+ * (allowance). A refused call changes no lent word.
  *
  * After an accepted run program holds the sheet's commands from its start; stack the entries, bottom first, with
- * dropped entries above as they were; numbers, line_labels and kinds the lines from their start; values and labels
- * the cells. All other lent words are as they came.
+ * dropped entries above as they were; numbers, line_labels, kinds and pages the lines from their start; values and
+ * labels the cells. All other lent words are as they came.
  */
 luvrodan_result luvrodan_plain(const uint8_t *sheet, size_t sheet_length,
                                int64_t *values, size_t value_count,
@@ -114,16 +118,18 @@ luvrodan_result luvrodan_plain(const uint8_t *sheet, size_t sheet_length,
                                int64_t *numbers, size_t number_count,
                                int64_t *line_labels, size_t line_label_count,
                                int64_t *kinds, size_t kind_count,
+                               int64_t *pages, size_t page_count,
                                uint64_t fuel);
 
 /*
  * Runs a sheet on the tag engine, under the rules of a table.
  *
  * As luvrodan_plain, and further: table: the rules, operator first. rule_memory: exactly seven words, read at the
- * start and written at the end; seven zeros mean empty. handler: two words a kernel command (codes as on sheets, 11
- * Or, 12 Dup, 13 Swap), luvrodan_handler_count of them.
+ * start and written at the end; seven zeros mean empty. A table has no rule for OutputTo, which is under Output's; its
+ * rows have its own code, 0c. handler: two words a kernel command (codes as on sheets, 11 Or, 12 Dup, 13 Swap),
+ * luvrodan_handler_count of them.
  *
- * Refusals, in this order: 1, 2, 3 (sheet), 4, 5 (cells), 6 (rules), 7 (rule memory), 8 at 1, 2 or 3 (spaces), 9
+ * Refusals, in this order: 1, 2, 3, 12 (sheet), 4, 5 (cells), 6 (rules), 7 (rule memory), 8 at 1, 2 or 3 (spaces), 9
  * (allowance). A refused call changes no lent word.
  *
  * After an accepted run handler holds the table's handler from its start and rule_memory the rule memory; words
@@ -140,6 +146,7 @@ luvrodan_result luvrodan_tagged(const uint8_t *sheet, size_t sheet_length,
                                 int64_t *numbers, size_t number_count,
                                 int64_t *line_labels, size_t line_label_count,
                                 int64_t *kinds, size_t kind_count,
+                                int64_t *pages, size_t page_count,
                                 uint64_t fuel);
 
 /* How many kernel commands the handler of this table has, 1 to 8,192; 0 where the bytes are no rule table. */
@@ -154,7 +161,10 @@ typedef struct {
     uint64_t length;
 } luvrodan_page_result;
 
-/* The page of a job: what the program `page` prints for these bytes on standard input. */
+/*
+ * The page of a job: what the program `page` prints for these bytes on standard input. Each line begins with the number
+ * of the page that it was written to.
+ */
 luvrodan_page_result luvrodan_page(const uint8_t *job, size_t job_length, uint8_t *page, size_t page_length);
 
 /*
@@ -170,11 +180,11 @@ typedef struct {
 /*
  * Reads a text and writes its sheet.
  *
- * A line is a command's name (Add, Sub, Pop, Output, Push, Load, Store, Jump, Bnz, Call, Ret) and, for Push and Bnz,
- * one space and the operand: digits, perhaps after a minus. Push takes a signed number of 64 bits, Bnz one of 16, with
- * any number of digits; leading zeros and a minus before 0 are read too. Nothing else may stand on a line, no second
- * space, tab, carriage return or plus. A newline ends each line; the last one may be missing. The empty text is the
- * empty sheet.
+ * A line is a command's name (Add, Sub, Pop, Output, Push, Load, Store, Jump, Bnz, Call, Ret, OutputTo) and, for Push,
+ * Bnz and OutputTo, one space and the operand: digits, perhaps after a minus. Push takes a signed number of 64 bits,
+ * Bnz one of 16, OutputTo a page, 0 to 15, with any number of digits; leading zeros and a minus before 0 are read too.
+ * Nothing else may stand on a line, no second space, tab, carriage return or plus. A newline ends each line; the last
+ * one may be missing. The empty text is the empty sheet.
  *
  * Refusals, line by line: 1 at line 4,097, whatever it holds; 10 (an unknown name, more or fewer operands than the
  * command has, or one that is badly written); 11 (an operand outside the range). After all lines: 8 at 4 (the sheet is
@@ -186,7 +196,7 @@ luvrodan_written luvrodan_assemble(const uint8_t *text, size_t text_length, uint
  * Lists a sheet as the one normal text: no leading zeros, no minus before 0, a newline at each line's end. Reading
  * that gives the sheet again.
  *
- * Refusals, in this order: 1, 2, 3 (sheet), 8 at 4 (the text is longer than the buffer). A buffer of
+ * Refusals, in this order: 1, 2, 3, 12 (sheet), 8 at 4 (the text is longer than the buffer). A buffer of
  * LUVRODAN_TEXT_LIMIT bytes is enough for any sheet.
  */
 luvrodan_written luvrodan_list(const uint8_t *sheet, size_t sheet_length, uint8_t *text, size_t text_length);

@@ -17,7 +17,7 @@ cargo test --offline --release --quiet -p luvrodan
 
 out=$(mktemp -d)
 trap 'rm -rf "$out"' EXIT
-printf '12 00000001\n7 00000000\nend 00000000\n' > "$out/page"
+printf '0 12 00000001\n0 7 00000000\n0 end 00000000\n' > "$out/page"
 cargo run --offline --release --quiet -p luvrodan --example embed > "$out/rust"
 cmp "$out/page" "$out/rust"
 cc -std=c99 -Wall -Wextra -Werror -I include examples/embed.c "$LUVRODAN_ARCHIVE" -lm -o "$out/embed"

@@ -16,9 +16,9 @@ berth() {
     bash examples/job.sh examples/berth.txt "$2" "${cells[@]}" | cmp - "examples/berth-$1.job"
     [ "$(target/bin/page < "examples/berth-$1.job")" = "$(printf %b "$3")" ]
 }
-berth public 0 '412 00000000\nend 00000000'
-berth terminal 1 '412 00000000\n1397 00000001\nend 00000000'
-berth master 3 '412 00000000\n1397 00000001\n217 00000003\nend 00000000'
+berth public 0 '0 412 00000000\n0 end 00000000'
+berth terminal 1 '0 412 00000000\n1 1397 00000001\n0 end 00000000'
+berth master 3 '0 412 00000000\n1 1397 00000001\n0 217 00000003\n0 end 00000000'
 
 # the blocks of the README
 sed -n 's/^    //p' README.md > "$scratch/blocks"

@@ -32,8 +32,9 @@ while IFS='|' read -r _ c n w _; do
     width[$n]=${w:-0}
     told+="${code[$n]} $n ${width[$n]}"$'\n'
     names+=", $n"
-done < <(grep -E '^\| `[01][0-9a-f]` \| [A-Z][a-z]+ \| ([0-9] bytes )?\|' "$manual")
-defined=$(sed -nE 's/^description [a-z]+ = row 0x([0-9a-f]+) "([A-Za-z]+)" ([0-9]+) .*/\1 \2 \3/p' crates/program/specs/Command.antt)
+done < <(grep -E '^\| `[01][0-9a-f]` \| [A-Z][A-Za-z]+ \| ([0-9] bytes? )?\|' "$manual")
+defined=$(sed -nE 's/^description [A-Za-z]+ = row 0x([0-9a-f]+) "([A-Za-z]+)" (bare|Page|\(Signed [0-9]+\)) .*/\1 \2 \3/p' \
+    crates/program/specs/Command.antt | sed -E 's/ bare$/ 0/; s/ Page$/ 1/; s/ \(Signed ([0-9]+)\)$/ \1/')
 [ -n "$defined" ] && [ "${told%$'\n'}" = "$defined" ] || wrong "the table of commands is not that of crates/program/specs/Command.antt"
 grep -qF "(${names#, })" "$header" || wrong "the names of the commands are not those of $header"
 
@@ -161,7 +162,7 @@ done < <(sed -n '/^| line | is read as |/,/^$/{//d; /^|---/d; p;}' "$manual")
 [ "$lines" -gt 0 ] || wrong "no lines of text"
 
 # the standard rules
-rules=$(sed -nE 's/^\| [A-Z][a-z]+ \|.*\| `(1[0-9 ]*)` \|$/\1/p' "$manual" | xargs)
+rules=$(sed -nE 's/^\| [A-Z][A-Za-z, ]+ \|.*\| `(1[0-9 ]*)` \|$/\1/p' "$manual" | xargs)
 table=$(sed -nE 's/^ *0x([0-9a-f]+),$/\1/p' crates/policy/src/standard_table.rt | xargs)
 [ -n "$table" ] && [ "$rules" = "$table" ] || wrong "the bytes of the standard rules are not the standard table: $rules"
 

@@ -11,7 +11,8 @@ enum Op {
     Add,
     Sub,
     Pop,
-    Output,
+    /// To this page.
+    Output(i64),
     Push(i64),
     Load,
     Store,
@@ -46,14 +47,15 @@ fn single(code: i64, operand: i64) -> Op {
         1 => Op::Add,
         2 => Op::Sub,
         3 => Op::Pop,
-        4 => Op::Output,
+        4 => Op::Output(0),
         5 => Op::Push(operand),
         6 => Op::Load,
         7 => Op::Store,
         8 => Op::Jump,
         9 => Op::Bnz(operand),
         10 => Op::Call,
-        _ => Op::Ret,
+        11 => Op::Ret,
+        _ => Op::Output(operand),
     }
 }
 
@@ -106,8 +108,12 @@ fn run(ops: &[Op], lent: &mut Lent, fuel: u64) -> Report {
     let cells = &mut cells[..];
     let mut stack = [Entry { number: 0, label: 0, frame: false }; STACK];
     let room = lent.room();
-    let (numbers, line_labels, kinds) =
-        (&mut lent.numbers[..room], &mut lent.line_labels[..room], &mut lent.kinds[..room]);
+    let (numbers, line_labels, kinds, pages) = (
+        &mut lent.numbers[..room],
+        &mut lent.line_labels[..room],
+        &mut lent.kinds[..room],
+        &mut lent.pages[..room],
+    );
     let count = ops.len() as u64;
     let (mut pc, mut label, mut depth, mut lines, mut left) = (0i64, 0u32, 0usize, 0usize, fuel);
     // Entries below this were written.
@@ -156,6 +162,7 @@ fn run(ops: &[Op], lent: &mut Lent, fuel: u64) -> Report {
                 numbers[lines] = 0;
                 line_labels[lines] = label.into();
                 kinds[lines] = END;
+                pages[lines] = 0;
                 lines += 1;
                 break Stop::End;
             }
@@ -258,7 +265,7 @@ fn run(ops: &[Op], lent: &mut Lent, fuel: u64) -> Report {
                 depth -= 1;
                 pc += 1;
             }
-            Op::Output => {
+            Op::Output(page) => {
                 if !value!(0) {
                     break Stop::ValueMissing;
                 }
@@ -268,6 +275,7 @@ fn run(ops: &[Op], lent: &mut Lent, fuel: u64) -> Report {
                 numbers[lines] = entry!(0).number;
                 line_labels[lines] = (entry!(0).label | label).into();
                 kinds[lines] = NUMBER;
+                pages[lines] = page;
                 lines += 1;
                 depth -= 1;
                 pc += 1;

@@ -139,6 +139,25 @@ fn contestants<'a>(handler: &'a [i64]) -> Vec<Contestant<'a>> {
     list
 }
 
+/// Holds the contestants to one another, outside the time: to the same steps and lent words, and the tag engines also to
+/// the same counts and rule memory, which they alone write.
+fn hold_together(contestants: &[Contestant], workload: &Workload, handler: &[i64]) {
+    let (mut first, mut first_tags) = (None, None);
+    for contestant in contestants {
+        let mut lent = workload.lent(handler);
+        let counts = (contestant.run)(&workload.sheet, &mut lent, FUEL);
+        let rule_memory = std::mem::take(&mut lent.rule_memory);
+        let words = (counts[0], lent);
+        let agree = *first.get_or_insert_with(|| words.clone()) == words;
+        assert!(agree, "{} {}: other words than {}", contestant.name, workload.name, contestants[0].name);
+        if [TAGGED, TAGS].contains(&contestant.name) {
+            let tags = (counts, rule_memory);
+            let agree = *first_tags.get_or_insert_with(|| tags.clone()) == tags;
+            assert!(agree, "{} {}: the tag engines differ", contestant.name, workload.name);
+        }
+    }
+}
+
 struct Measured {
     name: &'static str,
     /// Nanoseconds a step, of the best round.
@@ -201,11 +220,6 @@ fn print_speeds(handler: &[i64], contestants: &[Contestant]) {
         let [steps, faults, kernel] =
             measured.iter().find(|one| one.name == TAGS).map_or([1, 0, 0], |one| one.counts);
         println!(" {:>13.3} {:>13.2}", faults as f64 / steps as f64, kernel as f64 / steps as f64);
-        for one in &measured {
-            if one.name == TAGGED {
-                assert_eq!(one.counts, [steps, faults, kernel], "the tag engines count alike");
-            }
-        }
         if let Some(time) = lua {
             measured.push(Measured { name: LUA, time, counts: [0; 3] });
         }
@@ -376,6 +390,9 @@ fn main() {
     let contestants = contestants(&handler);
     println!("processor time, best of {ROUNDS} runs of {FUEL} steps; memory made anew before each run, outside the time");
     println!("the standard table's handler has {} kernel commands", handler.len() / 2);
+    for workload in all().iter().chain([&berth()]) {
+        hold_together(&contestants, workload, &handler);
+    }
     print_speeds(&handler, &contestants);
     print_growth(&handler, &contestants);
     print_texts();

@@ -119,7 +119,8 @@ fn needs(code: i64, stack: &[i64], depth: usize, labels: &[i64]) -> Result<[i64;
 #[inline(never)]
 fn run(count: usize, lent: &mut Lent, fuel: u64) -> Report {
     let room = lent.room();
-    let Lent { values, labels, rule_memory, program, stack, handler, numbers, line_labels, kinds } = lent;
+    let Lent { values, labels, rule_memory, program, stack, handler, numbers, line_labels, kinds, pages } =
+        lent;
     let (mut pc, mut label, mut depth, mut lines, mut steps) = (0i64, 0i64, 0usize, 0usize, 0u64);
     let (mut faults, mut kernel_steps) = (0, 0);
     let mut memory: [i64; 7] = rule_memory[..].try_into().expect("the rule memory was accepted");
@@ -131,6 +132,7 @@ fn run(count: usize, lent: &mut Lent, fuel: u64) -> Report {
             numbers[lines] = 0;
             line_labels[lines] = label;
             kinds[lines] = END;
+            pages[lines] = 0;
             lines += 1;
             break Stop::End;
         }
@@ -175,13 +177,15 @@ fn run(count: usize, lent: &mut Lent, fuel: u64) -> Report {
                 depth -= 1;
             }
             3 => depth -= 1,
-            4 => {
+            // an Output's operand word is 0
+            4 | 12 => {
                 if lines >= room {
                     break Stop::OutputFull;
                 }
                 numbers[lines] = stack[top + 1];
                 line_labels[lines] = result;
                 kinds[lines] = NUMBER;
+                pages[lines] = operand;
                 lines += 1;
                 depth -= 1;
             }

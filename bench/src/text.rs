@@ -1,7 +1,7 @@
 //! Sheets in text, read and listed in safe Rust: into a `Vec` first, so that a refusal writes nothing.
 
 use differential::text::{written, Texts, Written};
-use model::sheet::{decode, Command::*, COMMANDS};
+use model::sheet::{decode, Command::*, COMMANDS, PAGES};
 use model::text::lines;
 use model::Refusal;
 
@@ -34,7 +34,7 @@ impl Texts for Fast {
 }
 
 /// The names in the order of their codes, each with what follows it: the space before an operand, or the line's end.
-const NAMES: [&[u8]; 11] = [
+const NAMES: [&[u8]; 12] = [
     b"Add\n",
     b"Sub\n",
     b"Pop\n",
@@ -46,6 +46,7 @@ const NAMES: [&[u8]; 11] = [
     b"Bnz ",
     b"Call\n",
     b"Ret\n",
+    b"OutputTo ",
 ];
 
 /// Room for each byte of a text: the shortest line of a Push, which gives nine bytes, has six. And for each byte of a
@@ -89,6 +90,7 @@ fn read_words(line: &[u8], sheet: &mut Vec<u8>) -> Result<(), u64> {
         b"Bnz" => 9,
         b"Call" => 10,
         b"Ret" => 11,
+        b"OutputTo" => 12,
         _ => return Err(MALFORMED),
     };
     sheet.push(code);
@@ -100,7 +102,8 @@ fn read_words(line: &[u8], sheet: &mut Vec<u8>) -> Result<(), u64> {
         (9, Some(number), None) => {
             sheet.extend(i16::try_from(number).map_err(|_| OUTSIDE)?.to_le_bytes());
         }
-        (5 | 9, ..) | (_, Some(_), _) => return Err(MALFORMED),
+        (12, Some(number), None) => sheet.push(page(number).ok_or(OUTSIDE)?),
+        (5 | 9 | 12, ..) | (_, Some(_), _) => return Err(MALFORMED),
         _ => {}
     }
     Ok(())
@@ -117,6 +120,11 @@ fn number(word: &[u8]) -> Option<i128> {
     Some(if digits.len() < word.len() { -size } else { size })
 }
 
+/// The page of this number, if there is one.
+fn page(number: i128) -> Option<u8> {
+    u8::try_from(number).ok().filter(|&page| page < PAGES)
+}
+
 #[inline(never)]
 fn list_commands(sheet: &[u8], buffer: &mut [u8]) -> Result<usize, Refusal> {
     let mut text = Vec::with_capacity(TEXT_ROOM * sheet.len());
@@ -125,6 +133,7 @@ fn list_commands(sheet: &[u8], buffer: &mut [u8]) -> Result<usize, Refusal> {
         let operand = match command {
             Push(number) => number,
             Bnz(distance) => distance.into(),
+            OutputTo(page) => page.into(),
             _ => {
                 text.push(b'\n');
                 continue;
@@ -154,6 +163,14 @@ fn assemble(text: &[u8], buffer: &mut [u8]) -> Result<usize, Refusal> {
 fn read_line<'a>(text: &'a [u8], sheet: &mut Vec<u8>) -> Result<&'a [u8], u64> {
     let named = |(name, code): (&&[u8], u8)| Some((text.strip_prefix(name.trim_ascii_end())?, code));
     let (rest, code) = NAMES.iter().zip(1..).find_map(named).ok_or(MALFORMED)?;
+    // OutputTo is found as Output, with which it starts.
+    if code == 4 {
+        if let Some(rest) = rest.strip_prefix(b"To") {
+            let (number, rest) = operand(rest).ok_or(MALFORMED)?;
+            sheet.extend([12, page(number).ok_or(OUTSIDE)?]);
+            return Ok(rest);
+        }
+    }
     sheet.push(code);
     match code {
         5 => {
@@ -216,6 +233,14 @@ fn list(sheet: &[u8], buffer: &mut [u8]) -> Result<usize, Refusal> {
             9 => {
                 put_operand(i16::from_le_bytes(*rest.first_chunk().ok_or(cut)?).into(), &mut text);
                 offset += 3;
+            }
+            12 => {
+                let [page] = *rest.first_chunk().ok_or(cut)?;
+                if page >= PAGES {
+                    return Err(Refusal::new(12, offset));
+                }
+                put_operand(page.into(), &mut text);
+                offset += 2;
             }
             _ => offset += 1,
         }

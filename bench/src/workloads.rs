@@ -26,7 +26,7 @@ impl Workload {
     /// not hold the system's work of giving its pages.
     pub fn lent(&self, handler: &[i64]) -> Lent {
         let mut lent = Lent::roomy(&self.cells, self.lines);
-        for run in [&mut lent.numbers, &mut lent.line_labels, &mut lent.kinds] {
+        for run in [&mut lent.numbers, &mut lent.line_labels, &mut lent.kinds, &mut lent.pages] {
             run.fill(-7);
         }
         lent.handler = handler.to_vec();
@@ -114,6 +114,28 @@ fn lines() -> Workload {
     }
 }
 
+/// The same step for step, with three of four lines by OutputTo.
+fn pages() -> Workload {
+    let sheet = [
+        [Push(7), Output, Push(1), Bnz(1)],
+        [Push(7), OutputTo(0), Push(1), Bnz(1)],
+        [Push(7), OutputTo(1), Push(1), Bnz(1)],
+        [Push(7), OutputTo(15), Push(1), Bnz(-15)],
+    ];
+    Workload {
+        name: "pages",
+        sheet: encode(&sheet.concat()),
+        cells: vec![],
+        lines: 300_000,
+        lua: Some(Lua {
+            setup: "local out, page = {}, {}",
+            round: "out[#out + 1] = 7; page[#page + 1] = 0; out[#out + 1] = 7; page[#page + 1] = 0; \
+                    out[#out + 1] = 7; page[#page + 1] = 1; out[#out + 1] = 7; page[#page + 1] = 15",
+            steps: 16,
+        }),
+    }
+}
+
 /// All of these, drawn at random, over cells of several owners.
 fn mix() -> Workload {
     let mut random = Random::new(2026);
@@ -139,7 +161,7 @@ fn mix() -> Workload {
 }
 
 pub fn all() -> Vec<Workload> {
-    vec![arithmetic(), walk(1024), calls(), hidden_branches(), lines(), mix()]
+    vec![arithmetic(), walk(1024), calls(), hidden_branches(), lines(), pages(), mix()]
 }
 
 /// The berth of the README: a run of 18 steps that comes to its end, with room for its three lines and the end line.
@@ -166,7 +188,7 @@ pub fn idle(commands: usize) -> Vec<u8> {
 
 /// Commands to read and to list, which are cut into texts of one length. They are so many that the processor cannot
 /// foresee their branches, as it would those of one text that is read again and again.
-pub fn texts() -> [(&'static str, Vec<Command>); 3] {
+pub fn texts() -> [(&'static str, Vec<Command>); 4] {
     const NAMES: [Command; 9] = [Add, Sub, Pop, Output, Load, Store, Jump, Call, Ret];
     let mut random = Random::new(2026);
     let mut drawn =
@@ -188,5 +210,13 @@ pub fn texts() -> [(&'static str, Vec<Command>); 3] {
             }),
         ),
         ("names", drawn(|random| random.pick(&NAMES))),
+        (
+            "pages",
+            drawn(|random| match random.weighted(&[50, 10, 40]) {
+                0 => Push(random.below(64) as i64),
+                1 => Output,
+                _ => OutputTo(random.below(16) as u8),
+            }),
+        ),
     ]
 }

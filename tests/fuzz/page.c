@@ -1,15 +1,45 @@
 /*
- * A fuzz target for libFuzzer: any bytes as a job. The page must fit, end a line where it is not empty, have an end line nowhere but
- * last, and leave every byte beyond it as it came; a shorter buffer must be left alone.
+ * A fuzz target for libFuzzer: any bytes as a job. The page must fit, be one line that refuses the job or lines of a run, each with its
+ * page, have an end line nowhere but last, and leave every byte beyond it as it came; a shorter buffer must be left alone.
  */
 #include "check.h"
 
-/* No line that begins with an 'e', as an end line does and no other, stands before another line. */
-static void check_end_line(const uint8_t *page, uint64_t length)
+static const uint8_t *skip_digits(const uint8_t *at)
 {
-    for (uint64_t at = 0; at < length; at++)
-        if (page[at] == 'e' && (at == 0 || page[at - 1] == '\n'))
-            check(length - at == sizeof "end 00000000\n" - 1);
+    while ('0' <= *at && *at <= '9')
+        at++;
+    return at;
+}
+
+/* A page 0 to 15, a number or `end`, and a label. An end line is on page 0, and the last. */
+static const uint8_t *check_line(const uint8_t *line, const uint8_t *end)
+{
+    const uint8_t *at = skip_digits(line);
+    check(at - line == 1 || (at - line == 2 && line[0] == '1' && line[1] <= '5'));
+    check(*at++ == ' ');
+    if (*at == 'e') {
+        check(end - line == sizeof "0 end 00000000\n" - 1 && memcmp(line, "0 end", 5) == 0);
+        at += 3;
+    } else {
+        const uint8_t *number = at + (*at == '-');
+        at = skip_digits(number);
+        check(1 <= at - number && at - number <= 19);
+    }
+    check(*at++ == ' ');
+    for (int digit = 0; digit < 8; digit++, at++)
+        check(('0' <= *at && *at <= '9') || ('a' <= *at && *at <= 'f'));
+    check(*at == '\n');
+    return at + 1;
+}
+
+static void check_lines(const uint8_t *page, const uint8_t *end)
+{
+    if (page < end && (*page == 'j' || *page == 'r'))
+        check(memchr(page, '\n', (size_t)(end - page)) == end - 1);
+    else
+        while (page < end)
+            page = check_line(page, end);
+    check(page <= end);
 }
 
 int LLVMFuzzerTestOneInput(const uint8_t *job, size_t length)
@@ -25,8 +55,7 @@ int LLVMFuzzerTestOneInput(const uint8_t *job, size_t length)
 
     made = luvrodan_page(job, length, start, LUVRODAN_PAGE_LIMIT);
     check(made.status == 0 && made.length <= LUVRODAN_PAGE_LIMIT);
-    check(made.length == 0 || start[made.length - 1] == '\n');
-    check_end_line(start, made.length);
+    check_lines(start, start + made.length);
     check_untouched(page, start);
     check_untouched(start + made.length, end);
     return 0;

@@ -36,7 +36,8 @@ page)
     done
     ;;
 text)
-    printf '%s\n' Add Sub Pop Output 'Push -9223372036854775808' Load Store Jump 'Bnz 032767' Call Ret > "$work/seeds/commands"
+    printf '%s\n' Add Sub Pop Output 'Push -9223372036854775808' Load Store Jump 'Bnz 032767' Call Ret 'OutputTo 015' \
+        > "$work/seeds/commands"
     yes Add | head -n 4097 > "$work/seeds/lines"
     ;;
 esac

@@ -62,6 +62,7 @@ int LLVMFuzzerTestOneInput(const uint8_t *input, size_t length)
     }
 
     luvrodan_written listed = list(input, length);
-    check(listed.refusal <= LUVRODAN_REFUSED_OPERAND && (listed.refusal == 0 || listed.position < length));
+    check(listed.refusal <= LUVRODAN_REFUSED_OPERAND || listed.refusal == LUVRODAN_REFUSED_PAGE);
+    check(listed.refusal == 0 || listed.position < length);
     return 0;
 }

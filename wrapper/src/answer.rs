@@ -22,12 +22,16 @@ pub enum Refusal {
     TooManyCommands {
         offset: u64,
     },
-    /// A code that is not 01 to 0b.
+    /// A code that is not 01 to 0c.
     UnknownCode {
         offset: u64,
     },
     /// A command whose operand is cut off.
     CutOperand {
+        offset: u64,
+    },
+    /// An OutputTo whose page is over 15.
+    Page {
         offset: u64,
     },
     /// Two runs of cells of different lengths (the shorter), or more than 1,024 cells (1,024).
@@ -108,6 +112,7 @@ impl Refusal {
             Refusal::Allowance => 9,
             Refusal::BadLine { .. } => 10,
             Refusal::OperandOutside { .. } => 11,
+            Refusal::Page { .. } => 12,
         }
     }
 
@@ -117,6 +122,7 @@ impl Refusal {
             Refusal::TooManyCommands { offset }
             | Refusal::UnknownCode { offset }
             | Refusal::CutOperand { offset }
+            | Refusal::Page { offset }
             | Refusal::RuleTable { offset } => offset,
             Refusal::CellCount { place } => place,
             Refusal::LabelOutside { cell } => cell,
@@ -218,6 +224,7 @@ fn refusal(number: u64, place: u64) -> Refusal {
         9 => Refusal::Allowance,
         10 => Refusal::BadLine { line: place },
         11 => Refusal::OperandOutside { line: place },
+        12 => Refusal::Page { offset: place },
         _ => panic!("refusal {number} is not of this interface"),
     }
 }

@@ -13,13 +13,16 @@ pub use answer::{Refusal, Report, Space, Stop};
 pub use machine::{Atom, Entry, Kind, Line, Machine};
 pub use text::{assemble, assemble_into, assemble_raw, list, list_into, list_raw, SHEET_LIMIT, TEXT_LIMIT};
 
+/// Pages of a run: their numbers are 0 to 15.
+pub const PAGE_COUNT: usize = sys::PAGE_COUNT;
+
 /// Bytes of the longest page.
 pub const PAGE_LIMIT: usize = sys::PAGE_LIMIT;
 
 /// The words of a rule memory: code, P, L1, L2, L3, new place label, result label.
 pub const RULE_MEMORY_WORDS: usize = 7;
 
-/// The standard rules as a table.
+/// The standard rules as a table. OutputTo has none of its own: it is under Output's.
 #[rustfmt::skip]
 pub const STANDARD_TABLE: [u8; 55] = [
     0x17, 0x11, 0x15, 0x12, 0x13,                                     // Add
@@ -45,11 +48,12 @@ pub struct Lent<'a> {
     pub program: &'a mut [i64],
     /// 256 entries of three words.
     pub stack: &'a mut [i64],
-    /// The lines' numbers, labels and kinds ([`sys::LINE_NUMBER`], [`sys::LINE_END`]); the shortest run sets how many
-    /// fit, the end line included.
+    /// The lines' numbers, labels, kinds ([`sys::LINE_NUMBER`], [`sys::LINE_END`]) and pages; the shortest run sets how
+    /// many fit, the end line included.
     pub numbers: &'a mut [i64],
     pub line_labels: &'a mut [i64],
     pub kinds: &'a mut [i64],
+    pub pages: &'a mut [i64],
 }
 
 /// What the tag engine is lent besides.
@@ -93,6 +97,8 @@ pub fn plain_raw(sheet: &[u8], lent: Lent, fuel: u64) -> sys::RawResult {
             lent.line_labels.len(),
             lent.kinds.as_mut_ptr(),
             lent.kinds.len(),
+            lent.pages.as_mut_ptr(),
+            lent.pages.len(),
             fuel,
         )
     }
@@ -125,6 +131,8 @@ pub fn tagged_raw(sheet: &[u8], lent: Lent, tags: Tags, fuel: u64) -> sys::RawRe
             lent.line_labels.len(),
             lent.kinds.as_mut_ptr(),
             lent.kinds.len(),
+            lent.pages.as_mut_ptr(),
+            lent.pages.len(),
             fuel,
         )
     }

@@ -13,15 +13,17 @@ pub struct Atom {
 /// What a line says.
 #[derive(Clone, Copy, Debug, PartialEq, Eq)]
 pub enum Kind {
-    /// A number that an Output wrote.
+    /// A number that an Output or OutputTo wrote.
     Number,
     /// That the run came to the end of the sheet.
     End,
 }
 
-/// A line of a run, shown as `page` prints it. An end line's number is 0, its label that of the place.
+/// A line of a run, shown as `page` prints it. Its page is 0 to 15. An end line's page and number are 0, its label that
+/// of the place.
 #[derive(Clone, Copy, Debug, PartialEq, Eq)]
 pub struct Line {
+    pub page: u8,
     pub kind: Kind,
     pub number: i64,
     pub label: u32,
@@ -30,8 +32,8 @@ pub struct Line {
 impl fmt::Display for Line {
     fn fmt(&self, out: &mut fmt::Formatter) -> fmt::Result {
         match self.kind {
-            Kind::Number => write!(out, "{} {:08x}", self.number, self.label),
-            Kind::End => write!(out, "end {:08x}", self.label),
+            Kind::Number => write!(out, "{} {} {:08x}", self.page, self.number, self.label),
+            Kind::End => write!(out, "{} end {:08x}", self.page, self.label),
         }
     }
 }
@@ -55,6 +57,7 @@ pub struct Machine {
     numbers: Vec<i64>,
     line_labels: Vec<i64>,
     kinds: Vec<i64>,
+    pages: Vec<i64>,
     rule_memory: [i64; RULE_MEMORY_WORDS],
     depth: usize,
     lines: usize,
@@ -72,6 +75,7 @@ impl Machine {
             numbers: vec![0; lines],
             line_labels: vec![0; lines],
             kinds: vec![0; lines],
+            pages: vec![0; lines],
             rule_memory: [0; RULE_MEMORY_WORDS],
             depth: 0,
             lines: 0,
@@ -114,6 +118,7 @@ impl Machine {
             numbers: &mut self.numbers,
             line_labels: &mut self.line_labels,
             kinds: &mut self.kinds,
+            pages: &mut self.pages,
         };
         (lent, &mut self.rule_memory, &mut self.handler)
     }
@@ -125,14 +130,18 @@ impl Machine {
     }
 
     pub fn cells(&self) -> impl Iterator<Item = Atom> + '_ {
-        atoms(&self.values, &self.labels)
+        let words = self.values.iter().zip(&self.labels);
+        words.map(|(&number, &label)| Atom { number, label: label as u32 })
     }
 
     /// The lines of the last accepted run. Where it came to the end of the sheet the last one says so.
     pub fn lines(&self) -> impl Iterator<Item = Line> + '_ {
-        let kinds = self.kinds[..self.lines].iter().map(|&word| kind(word));
-        let atoms = atoms(&self.numbers, &self.line_labels);
-        kinds.zip(atoms).map(|(kind, Atom { number, label })| Line { kind, number, label })
+        (0..self.lines).map(|index| Line {
+            page: page(self.pages[index]),
+            kind: kind(self.kinds[index]),
+            number: self.numbers[index],
+            label: self.line_labels[index] as u32,
+        })
     }
 
     /// The lines of the last accepted run that a reader who is cleared for this set of owners may see.
@@ -140,8 +149,13 @@ impl Machine {
         self.lines().filter(move |line| line.label & !set == 0)
     }
 
-    /// Whether such a reader sees the end line, and so knows that all lines for them are there. Where not, the run was
-    /// cut, or it ended at a place that they are not cleared for.
+    /// Those of them that stand on this page. The end line is on page 0.
+    pub fn view_of_page(&self, set: u32, page: u8) -> impl Iterator<Item = Line> + '_ {
+        self.view(set).filter(move |line| line.page == page)
+    }
+
+    /// Whether such a reader sees the end line, and so knows that all lines for them are there, on every page. Where not,
+    /// the run was cut, or it ended at a place that they are not cleared for.
     pub fn view_is_whole(&self, set: u32) -> bool {
         self.view(set).any(|line| line.kind == Kind::End)
     }
@@ -166,14 +180,17 @@ impl Machine {
     }
 }
 
+fn page(word: i64) -> u8 {
+    match u8::try_from(word) {
+        Ok(page) if usize::from(page) < sys::PAGE_COUNT => page,
+        _ => panic!("page {word} is not of this interface"),
+    }
+}
+
 fn kind(word: i64) -> Kind {
     match word {
         sys::LINE_NUMBER => Kind::Number,
         sys::LINE_END => Kind::End,
         _ => panic!("kind {word} is not of this interface"),
     }
-}
-
-fn atoms<'a>(numbers: &'a [i64], labels: &'a [i64]) -> impl Iterator<Item = Atom> + 'a {
-    numbers.iter().zip(labels).map(|(&number, &label)| Atom { number, label: label as u32 })
 }

@@ -1,7 +1,10 @@
 //! `include/luvrodan.h` as Rust declarations. The rest of the crate is over these and is safe.
 
+/// Pages of a run: their numbers are 0 to 15.
+pub const PAGE_COUNT: usize = 16;
+
 /// Bytes of the longest page.
-pub const PAGE_LIMIT: usize = 30_720;
+pub const PAGE_LIMIT: usize = 33_792;
 
 /// Bytes of the longest sheet and of the longest listing.
 pub const SHEET_LIMIT: usize = 36_864;
@@ -59,6 +62,8 @@ extern "C" {
         line_label_count: usize,
         kinds: *mut i64,
         kind_count: usize,
+        pages: *mut i64,
+        page_count: usize,
         fuel: u64,
     ) -> RawResult;
 
@@ -85,6 +90,8 @@ extern "C" {
         line_label_count: usize,
         kinds: *mut i64,
         kind_count: usize,
+        pages: *mut i64,
+        page_count: usize,
         fuel: u64,
     ) -> RawResult;
 

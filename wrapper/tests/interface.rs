@@ -29,9 +29,10 @@ fn lines_and_cells() {
         .unwrap();
         assert_eq!((report.stop, report.steps, report.lines, report.depth), (Stop::End, 9, 3, 0));
         let lines: Vec<_> = machine.lines().collect();
-        let number = |number, label| Line { kind: Kind::Number, number, label };
-        assert_eq!(lines, [number(12, 1), number(7, 0), Line { kind: Kind::End, number: 0, label: 0 }]);
-        assert_eq!(view(&machine, 0), ["7 00000000", "end 00000000"]);
+        let number = |number, label| Line { page: 0, kind: Kind::Number, number, label };
+        let end = Line { page: 0, kind: Kind::End, number: 0, label: 0 };
+        assert_eq!(lines, [number(12, 1), number(7, 0), end]);
+        assert_eq!(view(&machine, 0), ["0 7 00000000", "0 end 00000000"]);
         assert_eq!(machine.cells().collect::<Vec<_>>(), CELLS);
     }
     assert_eq!(machine.rule_memory(), [4, 0, 0, -1, -1, 0, 0]);
@@ -48,8 +49,8 @@ fn whole_views() {
     let sheet = sheet(&[&push(3), &[4], &push(1), &[6, 9, 1, 0]]);
     let mut machine = Machine::new(&CELLS, 2);
     machine.run_plain(&sheet, 5).unwrap();
-    assert_eq!(view(&machine, 1), ["3 00000000", "end 00000001"]);
-    assert_eq!(view(&machine, 0), ["3 00000000"]);
+    assert_eq!(view(&machine, 1), ["0 3 00000000", "0 end 00000001"]);
+    assert_eq!(view(&machine, 0), ["0 3 00000000"]);
     assert!(machine.view_is_whole(1) && !machine.view_is_whole(0));
     // Cut by the allowance; by the room, at the end, also where the allowance is spent.
     assert_eq!(machine.run_plain(&sheet, 4).unwrap().stop, Stop::AllowanceSpent);
@@ -58,9 +59,39 @@ fn whole_views() {
     for fuel in [5, 6] {
         let report = machine.run_tagged(&sheet, &STANDARD_TABLE, fuel).unwrap();
         assert_eq!((report.stop, report.steps, report.place, report.lines), (Stop::OutputFull, 5, 5, 1));
-        assert_eq!(view(&machine, 1), ["3 00000000"]);
+        assert_eq!(view(&machine, 1), ["0 3 00000000"]);
         assert!(!machine.view_is_whole(1));
     }
+}
+
+#[test]
+fn pages_of_a_run() {
+    // A public number and a secret one, each on page 15 and on page 0.
+    let prints = sheet(&[&push(3), &[12, 15], &push(1), &[6, 12, 15], &push(4), &[4], &push(1), &[6, 12, 0]]);
+    let mut machine = Machine::new(&CELLS, 5);
+    for engine in ["plain", "tagged"] {
+        let report = match engine {
+            "plain" => machine.run_plain(&prints, 100),
+            _ => machine.run_tagged(&prints, &STANDARD_TABLE, 100),
+        }
+        .unwrap();
+        assert_eq!((report.stop, report.lines), (Stop::End, 5));
+        let of_page =
+            |set, page| machine.view_of_page(set, page).map(|line| line.to_string()).collect::<Vec<_>>();
+        assert_eq!(of_page(1, 15), ["15 3 00000000", "15 5 00000001"]);
+        assert_eq!(of_page(0, 15), ["15 3 00000000"]);
+        assert_eq!(of_page(1, 0), ["0 4 00000000", "0 5 00000001", "0 end 00000000"]);
+        assert_eq!(of_page(0, 0), ["0 4 00000000", "0 end 00000000"]);
+        assert!((1..15).all(|page| of_page(1, page).is_empty()));
+        let all: Vec<_> = machine.lines().map(|line| line.page).collect();
+        assert_eq!(all, [15, 15, 0, 0, 0]);
+        assert!(machine.view_is_whole(0));
+    }
+    assert_eq!(machine.rule_memory(), [12, 0, 1, -1, -1, 0, 1]);
+    // All pages share the space.
+    let mut machine = Machine::new(&CELLS, 2);
+    assert_eq!(machine.run_plain(&prints, 100).unwrap().stop, Stop::OutputFull);
+    assert_eq!(machine.run_plain(&[12, 15], 100).unwrap().stop, Stop::ValueMissing);
 }
 
 #[test]
@@ -100,7 +131,7 @@ fn overflow() {
         assert_eq!((report.stop, report.steps, report.place), (Stop::Overflow, 4, 4));
         assert_eq!((report.stop.number(), report.stop.to_string()), (9, "result outside 64 bits".into()));
         assert_eq!(machine.stack().collect::<Vec<_>>(), stack);
-        assert_eq!(view(&machine, 1), ["3 00000000"]);
+        assert_eq!(view(&machine, 1), ["0 3 00000000"]);
         assert!(!machine.view_is_whole(1));
     }
     assert_eq!(machine.rule_memory(), [1, 0, 0, 0, -1, 0, 0]);
@@ -113,16 +144,25 @@ fn refusals() {
     assert_eq!(refused(&[3; 4097], 0), Refusal::TooManyCommands { offset: 4096 });
     assert_eq!(refused(&[3, 0], 0), Refusal::UnknownCode { offset: 1 });
     assert_eq!(refused(&[3, 9, 0], 0), Refusal::CutOperand { offset: 1 });
+    assert_eq!(refused(&[3, 12], 0), Refusal::CutOperand { offset: 1 });
+    assert_eq!(refused(&[3, 12, 16], 0), Refusal::Page { offset: 1 });
+    assert_eq!(refused(&[12, 15, 13], 0), Refusal::UnknownCode { offset: 2 });
     assert_eq!(refused(&[], 1_000_001), Refusal::Allowance);
     assert_eq!(machine.run_tagged(&[], &[0x17], 0), Err(Refusal::RuleTable { offset: 1 }));
     machine.set_rule_memory([1, 0, 1, 1, -1, 0, 0]);
     assert_eq!(machine.run_tagged(&[], &STANDARD_TABLE, 0), Err(Refusal::RuleMemory));
     machine.set_rule_memory([1, 0, 1, 1, -1, 0, 1]);
     assert!(machine.run_tagged(&[], &STANDARD_TABLE, 0).is_ok());
+    for (code, accepted) in [(4, true), (12, true), (13, false)] {
+        machine.set_rule_memory([code, 0, 1, -1, -1, 0, 1]);
+        assert_eq!(machine.run_tagged(&[], &STANDARD_TABLE, 0).is_ok(), accepted);
+    }
     let many = vec![CELLS[0]; 1025];
     assert_eq!(Machine::new(&many, 0).run_plain(&[], 0), Err(Refusal::CellCount { place: 1024 }));
     let refusal = Refusal::ShortSpace(Space::Handler);
     assert_eq!((refusal.number(), refusal.place(), refusal.to_string()), (8, 3, "refused 8 3".into()));
+    let refusal = Refusal::Page { offset: 7 };
+    assert_eq!((refusal.number(), refusal.place(), refusal.to_string()), (12, 7, "refused 12 7".into()));
 }
 
 /// Runs on lent memory with these lengths of program, stack and handler, without output space.
@@ -139,6 +179,7 @@ fn lend(lengths: [usize; 3], label: i64) -> [Result<Stop, Refusal>; 2] {
             numbers: &mut [],
             line_labels: &mut [],
             kinds: &mut [],
+            pages: &mut [],
         },
         9,
     );
@@ -150,6 +191,7 @@ fn lend(lengths: [usize; 3], label: i64) -> [Result<Stop, Refusal>; 2] {
         numbers: &mut [],
         line_labels: &mut [],
         kinds: &mut [],
+        pages: &mut [],
     };
     let tags = Tags { table: &STANDARD_TABLE, rule_memory, handler: &mut handler };
     [by_plain, tagged(&[3], lent, tags, 9)].map(|answer| answer.map(|report| report.stop))
@@ -170,7 +212,9 @@ fn lent_memory() {
 fn pages() {
     assert_eq!(page(&[]), b"job 0\n");
     assert_eq!(page(&[0x43, 0]), b"refused 2 0\n");
-    assert_eq!(page(&[&[0x43][..], &push(-5), &[4]].concat()), b"-5 00000000\nend 00000000\n");
+    assert_eq!(page(&[0x43, 12, 16]), b"refused 12 0\n");
+    assert_eq!(page(&[&[0x43][..], &push(-5), &[4]].concat()), b"0 -5 00000000\n0 end 00000000\n");
+    assert_eq!(page(&[&[0x43][..], &push(-5), &[12, 15]].concat()), b"15 -5 00000000\n0 end 00000000\n");
     let mut buffer = vec![1; PAGE_LIMIT - 1];
     assert_eq!(page_into(&[], &mut buffer), Err(ShortBuffer));
     assert!(buffer.iter().all(|&byte| byte == 1));
@@ -184,6 +228,8 @@ fn texts() {
     assert_eq!(list(&bytes).as_deref(), Ok(text));
     let relist = |text| assemble(text).and_then(|sheet| list(&sheet));
     assert_eq!(relist("Push -007\nBnz -0").as_deref(), Ok("Push -7\nBnz 0\n"));
+    assert_eq!(assemble("OutputTo 15\nOutput"), Ok(vec![12, 15, 4]));
+    assert_eq!(relist("OutputTo 007\nOutputTo -0").as_deref(), Ok("OutputTo 7\nOutputTo 0\n"));
     assert_eq!(relist("").as_deref(), Ok(""));
     let longest = "Push -9223372036854775808\n".repeat(4096);
     let sheet = assemble(&longest).unwrap();
@@ -209,16 +255,19 @@ fn refused_texts() {
     let refused = |text: &str| assemble(text).unwrap_err();
     assert_eq!(refused("Add\nadd"), Refusal::BadLine { line: 2 });
     assert_eq!(refused("Bnz 32768"), Refusal::OperandOutside { line: 1 });
+    assert_eq!(refused("Output\nOutputTo 16"), Refusal::OperandOutside { line: 2 });
+    assert_eq!(refused("Output 1"), Refusal::BadLine { line: 1 });
     assert_eq!(refused(&"Add\n".repeat(4097)), Refusal::TooManyLines { line: 4097 });
     assert_eq!(list(&[3; 4097]), Err(Refusal::TooManyCommands { offset: 4096 }));
     assert_eq!(list(&[3, 0]), Err(Refusal::UnknownCode { offset: 1 }));
     assert_eq!(list(&[3, 9, 0]), Err(Refusal::CutOperand { offset: 1 }));
+    assert_eq!(list(&[3, 12, 0xff]), Err(Refusal::Page { offset: 1 }));
     for (refusal, message) in [
         (refused("\n"), "refused 10 1: line 1 is not a command with its operands"),
         (refused("Add\nBnz -32769"), "refused 11 2: line 2 has an operand outside its command's range"),
         (refused(&"Add\n".repeat(5000)), "refused 1 4097: line 4097 is one too many"),
         (assemble_into(b"Add", &mut []).unwrap_err(), "refused 8 4: the buffer is too short"),
-        (list(&[12]).unwrap_err(), "refused 2 0"),
+        (list(&[13]).unwrap_err(), "refused 2 0"),
     ] {
         assert_eq!(refusal.to_string(), message);
     }

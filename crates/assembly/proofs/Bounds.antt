@@ -12,10 +12,12 @@ use Rattle.word.proofs.Laws.Field.{bytes-length}
 use Rattle.word.proofs.Laws.Decimal.{natural-length, decimal-length}
 use Rattle.program.specs.declared.Command.{Command}
 use Rattle.program.specs.declared.Command.the-variants.{Push}
-use Rattle.program.specs.Command.{opcode, operand, operandWidth}
+use Rattle.program.specs.declared.Operand.{Operand}
+use Rattle.program.specs.declared.Operand.the-variants as Operand
+use Rattle.program.specs.Command.{opcode, operand, operandOf, width, operandWidth}
 use Rattle.program.specs.Name.{letters}
-use Rattle.program.specs.Encode.{Writable, AllWritable, encodeCommand, encode}
-use Rattle.program.proofs.Ranges.{width-most, fits-word}
+use Rattle.program.specs.Encode.{Fits, Writable, AllWritable, encodeCommand, encode}
+use Rattle.program.proofs.Ranges.{width-most, fits-word, page-digits}
 use Rattle.assembly.specs.Assembly.{newline, operandText, lineText, listing}
 use Rattle.assembly.proofs.Rows.{operandMost, line-most}
 
@@ -33,18 +35,18 @@ encode-length [] = omega arith
 encode-length (c ∷ cs) =
     omega (arith, length-append (encodeCommand c) (encode cs), command-length c, encode-length cs)
 
-operand-length : (k : ℕ) (z : ℤ) → Signed 64 z → length (operandText k z) ≤ operandMost k
-operand-length zero z h = omega arith
-operand-length (suc k) z h = omega (arith, decimal-length z h)
+operand-length : (x : Operand) (z : ℤ) → Fits x z → Signed 64 z → length (operandText (width x) z) ≤ operandMost x
+operand-length (Operand.Signed zero) z w h = omega arith
+operand-length (Operand.Signed (suc k)) z w h = omega (arith, decimal-length z h)
+operand-length Operand.Page z w h = omega (arith, page-digits z w)
 
 line-length : (c : Command) → Writable c → length (lineText c) ≤ 25
 line-length c w =
     let o = opcode c in
-    let k = operandWidth o in
     omega (
       arith,
-      length-append (letters o) (operandText k (operand c)),
-      operand-length k (operand c) (fits-word o (operand c) w),
+      length-append (letters o) (operandText (operandWidth o) (operand c)),
+      operand-length (operandOf o) (operand c) w (fits-word o (operand c) w),
       line-most o,
     )
 

@@ -13,14 +13,14 @@ use Rattle.word.specs.Numeral.{numberOf}
 use Rattle.word.specs.Wrap.{Signed}
 use Rattle.word.proofs.Bool.{never, and-first, and-second}
 use Rattle.program.specs.declared.Command.{Command}
-use Rattle.program.specs.Command.{Opcode, operandWidth, inRange, opcode, operand, command}
+use Rattle.program.specs.Command.{Opcode, operandOf, operandWidth, inRange, opcode, operand, command}
 use Rattle.program.specs.Name.{letters, opcodeNamed}
 use Rattle.program.specs.Decode.{Decoded, refused, accepted, prepend, commandLimit}
-use Rattle.program.specs.Encode.{FitsBytes, Writable, AllWritable}
+use Rattle.program.specs.Encode.{Fits, Writable, AllWritable}
 use Rattle.program.proofs.Codes.{opcode-command, operand-command}
 use Rattle.program.proofs.Naming.{name-long}
 use Rattle.program.proofs.Spelling.{letters-named}
-use Rattle.program.proofs.Ranges.{fits-word, range-fits}
+use Rattle.program.proofs.Ranges.{fits-none, none-fits, fits-word, range-fits}
 use Rattle.assembly.specs.Assembly.{newline, space, linesOf, wordsOf, Line, malformed, outside, says}
 use Rattle.assembly.specs.Assembly.{readNumber, readOperands, readNamed, readWords, readLine, readFirst, readFrom, readText}
 use Rattle.assembly.specs.Assembly.{opcodeText, lineText, listing}
@@ -38,11 +38,11 @@ abbrev Said : List (List ℕ) → Command → Type 0
 Said ws c = Writable c × (plainWords ws ≡ true → lineText c ≡ spaced space ws)
 
 -- by an opcode and an operand that make the command
-said-parts : (o : Opcode) (z : ℤ) (ws : List (List ℕ)) (c : Command) → c ≡ command o z → FitsBytes (operandWidth o) z
+said-parts : (o : Opcode) (z : ℤ) (ws : List (List ℕ)) (c : Command) → c ≡ command o z → Fits (operandOf o) z
     → (plainWords ws ≡ true → opcodeText o z ≡ spaced space ws) → Said ws c
 said-parts o z ws c e w t =
     let p = opcode-command o z in
-    let q = operand-command o z (λ k. rw k at w) in
+    let q = operand-command o z (λ k. fits-none o z k w) in
     rw (e, p, q) (w, t)
 
 number-said : (o : Opcode) (x : Option ℤ) (c : Command) → readNumber o x ≡ says c
@@ -58,7 +58,7 @@ number-said o (some z) c e = by (inRange o z) refl e
 operands-said : (o : Opcode) (k : ℕ) (name : List ℕ) (ws : List (List ℕ)) (c : Command) → operandWidth o ≡ k → letters o ≡ name
     → readOperands o k ws ≡ says c → Said (name ∷ ws) c
 operands-said o zero name [] c e f r =
-    said-parts o (pos 0) (name ∷ []) c (cc) (rw e refl) (λ p. rw (e, append-nil (letters o)) f)
+    said-parts o (pos 0) (name ∷ []) c (cc) (none-fits o (pos 0) e refl) (λ p. rw (e, append-nil (letters o)) f)
 operands-said o zero name (w ∷ ws) c e f r = never (cc)
 operands-said o (suc k) name [] c e f r = never (cc)
 operands-said o (suc k) name (w ∷ []) c e f r =

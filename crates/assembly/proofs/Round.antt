@@ -9,13 +9,13 @@ use lib.IntN.{ℤ}
 use lib.ListN.{length}
 use Rattle.word.specs.Text.{decimal}
 use Rattle.program.specs.declared.Command.{Command}
-use Rattle.program.specs.Command.{Opcode, operandWidth, opcode, operand, command}
+use Rattle.program.specs.Command.{Opcode, operandOf, operandWidth, opcode, operand, command}
 use Rattle.program.specs.Name.{letters}
 use Rattle.program.specs.Decode.{accepted, commandLimit}
-use Rattle.program.specs.Encode.{FitsBytes, Writable, AllWritable}
+use Rattle.program.specs.Encode.{Fits, Writable, AllWritable}
 use Rattle.program.proofs.Codes.{command-whole}
 use Rattle.program.proofs.Spelling.{named-letters}
-use Rattle.program.proofs.Ranges.{fits-word, fits-range}
+use Rattle.program.proofs.Ranges.{fits-none, fits-word, fits-range}
 use Rattle.assembly.specs.Assembly.{newline, space, cut, linesOf, wordsOf, says, readOperands, readLine}
 use Rattle.assembly.specs.Assembly.{readFrom, readText, operandText, lineText, listing}
 use Rattle.assembly.proofs.Numerals.{decimal-letters, number-decimal}
@@ -41,9 +41,9 @@ text-words o (suc k) z =
     cut-first space ([] ∷ []) (letters o) (decimal z) (letters-without space o (omega arith))
     ∙ ap (λ (ws : List (List ℕ)). letters o ∷ ws) (cut-word space (decimal z) (decimal-without space z (omega arith)))
 
-words-read : (o : Opcode) (k : ℕ) (z : ℤ) → operandWidth o ≡ k → FitsBytes (operandWidth o) z
+words-read : (o : Opcode) (k : ℕ) (z : ℤ) → operandWidth o ≡ k → Fits (operandOf o) z
     → readOperands o k (operandWords k z) ≡ says (command o z)
-words-read o zero z e w = rw (rw e at w)
+words-read o zero z e w = rw (fits-none o z e w)
 words-read o (suc k) z e w = rw (number-decimal z (fits-word o z w), fits-range o z k e w)
 
 -- the line of a command is read as the command

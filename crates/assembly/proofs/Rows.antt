@@ -7,7 +7,9 @@ use mathlib.Core.Option.{Option, none, some}
 use Prim.Native.Nat.{ℕ, zero, suc, _+_, _≤_}
 use lib.Dec.{leb, leb→le}
 use lib.ListN.{length}
-use Rattle.program.specs.Command.{Opcode, operandWidth}
+use Rattle.program.specs.declared.Operand.{Operand}
+use Rattle.program.specs.declared.Operand.the-variants.{Signed, Page}
+use Rattle.program.specs.Command.{Opcode, operandOf}
 use Rattle.program.specs.Name.{letters}
 use Rattle.program.specs.Fetch.{shapeOf}
 use Rattle.program.proofs.Codes.{opcode-all}
@@ -23,13 +25,14 @@ pub shape-few : (x : Option Opcode) → Few (shapeOf x)
 shape-few none = tt
 shape-few (some o) = width-most o
 
--- the most that an operand of so many bytes takes in a line: a space, a minus and 19 digits
-abbrev pub operandMost : ℕ → ℕ
-operandMost zero = 0
-operandMost (suc k) = 21
+-- the most that an operand takes in a line: a space, a minus and 19 digits; a space and the two digits of a page
+abbrev pub operandMost : Operand → ℕ
+operandMost (Signed zero) = 0
+operandMost (Signed (suc k)) = 21
+operandMost Page = 3
 
 -- a line has at most 25 characters before its newline: a computed test of the list of opcodes
-pub line-most : (o : Opcode) → length (letters o) + operandMost (operandWidth o) ≤ 25
+pub line-most : (o : Opcode) → length (letters o) + operandMost (operandOf o) ≤ 25
 line-most o =
-    leb→le (length (letters o) + operandMost (operandWidth o)) 25
-    (opcode-all (λ o. leb (length (letters o) + operandMost (operandWidth o)) 25) tt o)
+    leb→le (length (letters o) + operandMost (operandOf o)) 25
+    (opcode-all (λ o. leb (length (letters o) + operandMost (operandOf o)) 25) tt o)

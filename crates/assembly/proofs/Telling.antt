@@ -18,7 +18,7 @@ use Rattle.program.specs.declared.Fetched.the-variants.{Is, Unknown, Cut}
 use Rattle.program.specs.declared.Checked.the-variants as Checked
 use Rattle.program.specs.declared.Refusal.{Refusal}
 use Rattle.program.specs.Command.{Opcode, opcodeOf, codeOf, opcode, operand, command}
-use Rattle.program.specs.Decode.{Decoded, refused, accepted, refusal, prepend, decodeFrom, decode, commandLimit, checkAnswer}
+use Rattle.program.specs.Decode.{Decoded, refused, accepted, refusal, prepend, decodeFrom, decode, commandLimit, checkAnswer, permits}
 use Rattle.program.specs.Fetch.{fetchOf}
 use Rattle.program.proofs.Checking.{remaining, remaining-end, remaining-limit}
 use Rattle.program.proofs.Encoding.{decoded-writable}
@@ -128,6 +128,15 @@ module _ (s : List ℕ) (acc : Acceptable s) where
         pub told-forward : at < next
         told-forward = n .forward
 
+        -- it may have its operand, as the sheet is acceptable
+        allowed : permits c ≡ true
+        unfolding c
+        allowed = by (permits c) refl
+          where
+            by : (b : Bool) → permits c ≡ b → permits c ≡ true
+            by true f = f
+            by false f = refusal-not (refusal 12 at) (left-over .0) (sym (decode-next s at h left n false f) ∙ step)
+
         pub told-next : Told s next (size + length (codeText (opcodeOf (getD s at 0)) z))
         unfolding c left
         told-next =
@@ -136,7 +145,7 @@ module _ (s : List ℕ) (acc : Acceptable s) where
               few = omega (arith, length-snoc (t .done) c, one);
               rest =
                   t .rest
-                  ∙ ap (after (t .done)) (ap (λ (k : ℕ). decodeFrom k at (drop at s)) one ∙ decode-next s at h left n)
+                  ∙ ap (after (t .done)) (ap (λ (k : ℕ). decodeFrom k at (drop at s)) one ∙ decode-next s at h left n true allowed)
                   ∙ sym (after-snoc (t .done) c (decodeFrom left next (drop next s)))
                   ∙ ap (λ (k : ℕ). after (t .done ++ (c ∷ [])) (decodeFrom (commandLimit - k) next (drop next s))) (sym (length-snoc (t .done) c));
               sized = grown;

@@ -2,7 +2,7 @@
 -- Assumes nothing.
 use mathlib.Core.Path.{refl}
 use Rattle.word.specs.Digits.{digitsOf, valueOf}
-use Rattle.word.specs.Field.{bitsAt, signedAt, bytesOf}
+use Rattle.word.specs.Field.{bitsAt, unsignedAt, signedAt, bytesOf}
 use Rattle.word.specs.Numeral.{numberOf}
 use Rattle.word.specs.Text.{digitChar, digitValue, numeral, numeralValue, digitCount, natural, decimal}
 use Rattle.word.specs.Wrap.{residue, signed}
@@ -15,5 +15,5 @@ use Rattle.assembly.specs.Trial.{Trials}
 
 pub trials-hold : Trials
 unfolding assembled listed readText readFrom cut opcodeNamed numberOf numeralValue digitValue encode bytesOf digitsOf valueOf residue signed
-    decode decodeFrom opcodeOf signedAt bitsAt listing decimal natural digitCount numeral digitChar
+    decode decodeFrom opcodeOf unsignedAt signedAt bitsAt listing decimal natural digitCount numeral digitChar
 trials-hold = (refl, refl)

@@ -10,7 +10,7 @@ use Rattle.word.specs.declared.numeral.Decimal.{Decimal}
 use Rattle.word.specs.declared.numeral.Decimal.the-variants as Decimal
 use Rattle.program.specs.declared.Shape.{Shape}
 use Rattle.program.specs.declared.Shape.the-variants as Shape
-use Rattle.program.specs.Command.{opcodeOf, codeOf, operandWidth, opcode, operand}
+use Rattle.program.specs.Command.{opcodeOf, codeOf, width, operandWidth, opcode, operand}
 use Rattle.program.specs.Fetch.{shapeOf, takesOf}
 use Rattle.program.specs.Name.{codeNamed}
 use Rattle.assembly.specs.declared.line.Line.{Line}
@@ -44,13 +44,13 @@ operandAt s code size at = choose (eqb (getD s at 10) 32) (numberAt s code size 
 
 abbrev pub shapeAt : List ℕ → ℕ → ℕ → Shape → Line
 shapeAt s code at Shape.Unknown = Malformed
-shapeAt s code at (Shape.Of width inputs has) =
-    choose (eqb width 0) (endsAt s at (Is code (pos 0) 1 (at + 1))) (operandAt s code (width + 1) at)
+shapeAt s code at (Shape.Of x inputs has rule) =
+    choose (eqb (width x) 0) (endsAt s at (Is code (pos 0) 1 (at + 1))) (operandAt s code (width x + 1) at)
 
 -- a row of the table of commands: an operand has at most eight bytes
 abbrev pub Few : Shape → Type 0
 Few Shape.Unknown = Unit {0}
-Few (Shape.Of width inputs has) = width ≤ 8
+Few (Shape.Of x inputs has rule) = width x ≤ 8
 
 abbrev pub codeAt : List ℕ → ℕ → ℕ → Line
 codeAt s code at = shapeAt s code at (shapeOf (opcodeOf code))

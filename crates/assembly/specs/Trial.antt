@@ -40,6 +40,7 @@ texts =
     ∷ gives (text ("Push 9223372036854775807" ∷ [])) (5 ∷ 255 ∷ 255 ∷ 255 ∷ 255 ∷ 255 ∷ 255 ∷ 255 ∷ 127 ∷ [])
     ∷ gives (text ("Push -9223372036854775808" ∷ [])) (5 ∷ 0 ∷ 0 ∷ 0 ∷ 0 ∷ 0 ∷ 0 ∷ 0 ∷ 128 ∷ [])
     ∷ gives (text ("Bnz 32767" ∷ "Bnz -32768" ∷ [])) (9 ∷ 255 ∷ 127 ∷ 9 ∷ 0 ∷ 128 ∷ [])
+    ∷ gives (text ("OutputTo -0" ∷ "OutputTo 15" ∷ [])) (12 ∷ 0 ∷ 12 ∷ 15 ∷ [])
     -- a lone newline; a name in another case, or the start of one; two spaces, one too many, a plus; operands too many and too few
     ∷ refuses (newline ∷ []) 10 1
     ∷ refuses (text ("Add" ∷ "push 1" ∷ [])) 10 2
@@ -54,16 +55,23 @@ texts =
     ∷ refuses (text ("Push -9223372036854775809" ∷ [])) 11 1
     ∷ refuses (text ("Ret" ∷ "Bnz 32768" ∷ [])) 11 2
     ∷ refuses (text ("Bnz 32768 1" ∷ [])) 10 1
+    ∷ refuses (text ("OutputTo 16" ∷ [])) 11 1
+    ∷ refuses (text ("OutputTo -1" ∷ [])) 11 1
+    ∷ refuses (text ("Output 1" ∷ [])) 10 1
     ∷ []
 
--- sheets that are listed; checks 2 and 3
+-- sheets that are listed; checks 2, 3 and 12
 abbrev pub sheets : List Trial
 sheets =
     gives sheet1 text1
     ∷ gives [] []
     ∷ gives (9 ∷ 255 ∷ 255 ∷ []) (text ("Bnz -1" ∷ []))
-    ∷ refuses (3 ∷ 12 ∷ []) 2 1
+    ∷ gives (12 ∷ 15 ∷ []) (text ("OutputTo 15" ∷ []))
+    ∷ refuses (3 ∷ 13 ∷ []) 2 1
     ∷ refuses (3 ∷ 9 ∷ 0 ∷ []) 3 1
+    ∷ refuses (3 ∷ 12 ∷ []) 3 1
+    ∷ refuses (3 ∷ 12 ∷ 16 ∷ 13 ∷ []) 12 1
+    ∷ refuses (3 ∷ 12 ∷ 255 ∷ []) 12 1
     ∷ []
 
 abbrev pub Hold : (List ℕ → Result) → List Trial → Type 0

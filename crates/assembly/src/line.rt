@@ -57,7 +57,8 @@ fn shaped(text: &[u8], code: u64, at: usize, shape: Shape) -> Line
 {
     match shape {
         Shape::Unknown => Line::Malformed,
-        Shape::Of(width, _, _) => {
+        Shape::Of(kind, _, _, _) => {
+            let width = program::width_of(kind);
             if width == 0 {
                 return ending(text, at, Line::Is(code, 0, 1, at + 1));
             }

@@ -124,7 +124,7 @@ fn has_operand(code: u64) -> bool
     let shape = program::shape_of(code);
     match shape {
         Shape::Unknown => false,
-        Shape::Of(width, _, _) => 0 < width,
+        Shape::Of(operand, _, _, _) => 0 < program::width_of(operand),
     }
 }
 

@@ -12,6 +12,7 @@ use lib.ListN.{length, length-append}
 use lib.Dec.{eqb, ltb}
 use borrow.Author.Tests.{ne-eqb, ltb-true}
 use Rattle.word.specs.Choose.{choose}
+use Rattle.word.specs.Digits.{digitsOf}
 use Rattle.word.specs.Text.{digitChar, digitIf, numeral, digitCount, natural, decimal, hexadecimal}
 use Rattle.word.proofs.Bool.{never}
 use Rattle.word.proofs.Laws.Numeral.{numeral-none, numeral-cons, numeral-length}
@@ -23,7 +24,7 @@ use Rattle.machine.specs.Claim.{view}
 use Rattle.machine.specs.End.{isEnd, hasEnd, Whole}
 use Rattle.machine.specs.End as Views
 use Rattle.report.specs.Job.{readJob, sheetOf}
-use Rattle.report.specs.Lines.{space, newline, headText, lineText}
+use Rattle.report.specs.Lines.{space, newline, pageText, headText, lineText}
 use Rattle.report.specs.Page.{pageOf}
 use Rattle.claims.specs.Pages.{readerOf, endText, Ends, Tells, Complete, Means, Meant}
 use Rattle.claims.proofs.Starts.{texts, texts-append, texts-start}
@@ -74,13 +75,25 @@ hexadecimal-without : (n : ℕ) → Without (hexadecimal n)
 unfolding hexadecimal
 hexadecimal-without n = numeral-without 16 (λ n. omega arith) 8 n
 
+blank : Without space
+blank = (λ f. omega arith, tt)
+
+page-without : (z : ℤ) → Without (pageText z)
+unfolding pageText
+page-without z = without-append (decimal z) space (decimal-without z) blank
+
 -- nor has a line that is no end line one
 line-without : (l : Line) → isEnd (l .kind) ≡ false → Without (lineText l)
 unfolding lineText
 line-without l e =
-    without-append (headText (l .kind) (l .number) ++ space ++ hexadecimal (l .label)) newline
-    (without-append (headText (l .kind) (l .number) ++ space) (hexadecimal (l .label))
-    (without-append (headText (l .kind) (l .number)) space (head (l .kind) e) (λ f. omega arith, tt))
+    let page = pageText (l .page) in
+    let first = headText (l .kind) (l .number) in
+    let label = hexadecimal (l .label) in
+    without-append (page ++ first ++ space ++ label) newline
+    (without-append (page ++ first ++ space) label
+    (without-append (page ++ first) space
+    (without-append page first (page-without (l .page)) (head (l .kind) e))
+    blank)
     (hexadecimal-without (l .label)))
     (λ f. omega arith, tt)
   where
@@ -118,13 +131,13 @@ first-before (x ∷ xs) ys = go (eqb x letter) (first-before xs ys)
     go true h = omega arith
     go false h = omega arith
 
--- the second byte of an end line, which has 13
-end-first : (label : ℕ) (ys : List ℕ) → firstAt (endText label ++ ys) ≡ 1
-unfolding lineText
+-- the fourth byte of an end line, `0 end` and its label, which has 15
+end-first : (label : ℕ) (ys : List ℕ) → firstAt (endText label ++ ys) ≡ 3
+unfolding lineText pageText decimal natural numeral digitCount digitChar digitsOf
 end-first label ys = refl
 
-end-length : (label : ℕ) → length (endText label) ≡ 13
-unfolding lineText hexadecimal
+end-length : (label : ℕ) → length (endText label) ≡ 15
+unfolding lineText pageText decimal natural numeral digitCount digitChar digitsOf hexadecimal
 end-length label = simp length-append (omega (arith, numeral-length 16 8 label))
 
 -- ════════════════════════════════════════════════════════════════════════════════════════════
@@ -133,8 +146,8 @@ end-length label = simp length-append (omega (arith, numeral-length 16 8 label))
 
 -- where the bytes of an end line stand in a text, an `n` stands
 without-end : (before after : List ℕ) (label : ℕ) → Without (before ++ endText label ++ after) → ⊥
-unfolding lineText
-without-end [] after label h = h .1 .0 refl
+unfolding lineText pageText decimal natural numeral digitCount digitChar digitsOf
+without-end [] after label h = h .1 .1 .1 .0 refl
 without-end (x ∷ before) after label h = without-end before after label (h .1)
 
 module _ (v : List Line) where
@@ -161,18 +174,18 @@ module _ (v : List Line) where
   whole-last : Whole v → (before after : List ℕ) (label : ℕ) → page ≡ before ++ endText label ++ after → after ≡ []
   whole-last w before after label e =
       let front = texts lineText (w .before) in
-      let at : firstAt page ≡ length front + 1 =
+      let at : firstAt page ≡ length front + 3 =
       ap firstAt (whole-page w ∙ ap (λ (t : List ℕ). front ++ t) (sym (append-nil (endText (w .label)))))
       ∙ first-after front (endText (w .label) ++ []) (lines-without (w .before) (w .only))
       ∙ ap (λ n. length front + n) (end-first (w .label) []) in
       let same = e ∙ append-assoc before (endText label) after in
-      let below : firstAt page ≤ length before + 1 =
+      let below : firstAt page ≤ length before + 3 =
       subst (λ n. firstAt page ≤ length before + n) (end-first label after)
       (subst (λ (t : List ℕ). firstAt t ≤ length before + firstAt (endText label ++ after)) (sym same)
       (first-before before (endText label ++ after))) in
-      let long : length page ≡ length front + 13 =
+      let long : length page ≡ length front + 15 =
       ap length (whole-page w) ∙ length-append front (endText (w .label)) ∙ ap (λ n. length front + n) (end-length (w .label)) in
-      let also : length page ≡ length before + (13 + length after) =
+      let also : length page ≡ length before + (15 + length after) =
       ap length same ∙ length-append before (endText label ++ after)
       ∙ ap (λ n. length before + n) (length-append (endText label) after ∙ ap (λ n. n + length after) (end-length label)) in
       none after (omega arith)

@@ -16,10 +16,12 @@ use Rattle.machine.specs.State.{start}
 use Rattle.machine.specs.Claim.{view, OneStartsOther, Alike, none, same}
 use Rattle.machine.specs.Claim as Machine
 use Rattle.machine.specs.End.{hasEnd, Whole, Tells, Means}
+use Rattle.machine.specs.Page.{TellsPage, OnPages}
 use Rattle.machine.specs.Run.{Result, run}
 use Rattle.machine.proofs.Holds.{run-range, standard-range}
 use Rattle.machine.proofs.Privacy.{standard-private}
 use Rattle.machine.proofs.End.{standard-complete, meant}
+use Rattle.machine.proofs.Page.{standard-pages, decoded-pages, pages-kept}
 use Rattle.engine.specs.declared.Ran as Engine
 use Rattle.engine.specs.declared.Answer.the-variants as Answer
 use Rattle.engine.specs.Memory.{Memory, room}
@@ -33,6 +35,7 @@ use Rattle.tagging.specs.Consult.{Tag}
 use Rattle.tagged.specs.Tagged.{left, tagged}
 use Rattle.claims.specs.Refusals.{Nothing, Checks, noneOwn, taggedOwn}
 use Rattle.claims.specs.Privacy.{cellsIn, linesIn, Ran, onPlain, onTagged, Views, Claim, Complete, Meant}
+use Rattle.claims.specs.Privacy.{EachPage, Paged}
 use Rattle.claims.proofs.Refusals.{plain-demand, tagged-demand}
 use Rattle.claims.proofs.Both.{tagged-plain}
 
@@ -89,6 +92,16 @@ views-run So holds S sheet cells₁ cells₂ ended₁ ended₂ lines₁ lines₂
 
 pub runs-private : Claim
 runs-private = views-run OneStartsOther standard-private
+
+-- one page of them
+pub runs-each-page : EachPage
+runs-each-page page = views-run (TellsPage page) (standard-pages page)
+
+pub runs-paged : Paged
+runs-paged sheet bytes cells ended lines ran =
+    let r = ran-runs sheet ran in
+    subst OnPages (sym (r .are))
+    (pages-kept Unit (fixed standard) (r .room) (r .commands) (decoded-pages sheet (r .commands) bytes (r .decoded)) (r .fuel) cells tt)
 
 pub runs-complete : Complete
 runs-complete = views-run Tells standard-complete

@@ -29,12 +29,12 @@ use Rattle.handler.specs.Translate.{compileRule, translate}
 use Rattle.tagging.specs.Consult.{matches, consult}
 use Rattle.tagged.specs.Tagged.{tagged}
 use Rattle.report.specs.Job.{fourAt, itemAt, readFrom, readJob}
-use Rattle.report.specs.Lines.{lineText, linesText}
+use Rattle.report.specs.Lines.{pageText, lineText, linesText}
 use Rattle.report.specs.Page.{runText, pageOf}
 use Rattle.claims.specs.Reading.{given, computed, expected, readings, others}
 
 pub readings-hold : map computed (readings ++ others) ≡ map expected (readings ++ others)
-unfolding given pageOf runText readJob readFrom itemAt fourAt lineText linesText digitsOf valueOf residue signed wrap addWrap subWrap
+unfolding given pageOf runText readJob readFrom itemAt fourAt pageText lineText linesText digitsOf valueOf residue signed wrap addWrap subWrap
     bitsAt unsignedAt signedAt bytesOf laid digitChar numeral digitCount natural decimal hexadecimal union subset join flows stored
     lowLabel opcodeOf decodeFrom decode encode request execute step asked run along paired labelsLimit tokenOf tokenAt readLabel
     readCondition readRuleWith readRules readTable acceptedRow evaluate orWord effect handle Kernel.step Kernel.run compileRule translate

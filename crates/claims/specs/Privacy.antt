@@ -5,10 +5,12 @@ use Prim.Native.Nat.{ℕ}
 use mathlib.Core.Path.{_≡_}
 use mathlib.Core.List.{List}
 use lib.IntN.{ℤ}
+use Rattle.word.specs.Field.{Bytes}
 use lib.ListN.{length}
 use Rattle.machine.specs.Atom.{Atom, Line}
 use Rattle.machine.specs.Claim.{view, Alike, OneStartsOther}
 use Rattle.machine.specs.End.{Tells, Means}
+use Rattle.machine.specs.Page.{TellsPage, OnPages}
 use Rattle.engine.specs.declared.Ran as Engine
 use Rattle.engine.specs.declared.Answer.the-variants as Answer
 use Rattle.engine.specs.Memory.{Memory}
@@ -61,3 +63,13 @@ abbrev pub Meant : Type 0
 Meant =
     (S : ℕ) (sheet : List ℕ) (cells : List Atom) (ran : Engine.Ran) (lines : List Line) →
     Ran sheet cells ran lines → Means S (view S lines) (ran .stop) (ran .machine .label .0)
+
+-- a page of its own is as private as the whole: the same of the lines of one page, whichever it is
+abbrev pub EachPage : Type 0
+EachPage = (page : ℤ) → Views (TellsPage page)
+
+-- and there are no other pages than 0 to 15
+abbrev pub Paged : Type 0
+Paged =
+    (sheet : List ℕ) → Bytes sheet → (cells : List Atom) (ran : Engine.Ran) (lines : List Line) →
+    Ran sheet cells ran lines → OnPages lines

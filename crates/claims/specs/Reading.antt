@@ -1,11 +1,11 @@
--- Document 01's twelve starred readings, R1 to R12, with request U1's end lines and U2's stop 9, and what they leave open: what is asked of
--- the engines and of the page, and what each must give. proofs/Readings.antt computes them.
+-- Document 01's twelve starred readings, R1 to R12, with request U1's end lines, U2's stop 9 and U4's pages, and what they leave
+-- open: what is asked of the engines and of the page, and what each must give. proofs/Readings.antt computes them.
 use Prim.Native.Nat.{ℕ, _^_, _*_, _-_}
 use mathlib.Core.List.{List, [], _∷_, _++_, map}
 use lib.IntN.{ℤ, pos, negsuc}
 use lib.ListN.{replicate}
 use Rattle.program.specs.declared.Command.{Command}
-use Rattle.program.specs.declared.Command.the-variants.{Add, Sub, Output, Push, Load, Store, Jump, Bnz, Call, Ret}
+use Rattle.program.specs.declared.Command.the-variants.{Add, Sub, Output, Push, Load, Store, Jump, Bnz, Call, Ret, OutputTo}
 use Rattle.program.specs.Encode.{encode}
 use Rattle.machine.specs.Atom.{Atom, Line, numberLine, endLine}
 use Rattle.machine.specs.Step.{atom}
@@ -55,11 +55,11 @@ abbrev pub lentTo : Setting → Memory
 lentTo s =
     let m : Memory = lentFor (cells (pos 7 ∷ s .c1 ∷ []) (pos 0 ∷ pos 1 ∷ [])) in
     let lines = zeros (s .room) in
-    Lent.memory (m .program) (m .lent) (output lines lines lines)
+    Lent.memory (m .program) (m .lent) (output lines lines lines lines)
 
 -- the tag engine on the sheet's bytes and the standard table
 abbrev pub execute : Setting → Ended Tag
-execute s = tagged (encode (s .program)) standardBytes (s .row) (lentTo s) (zeros (2 * 151)) (s .fuel) .ended
+execute s = tagged (encode (s .program)) standardBytes (s .row) (lentTo s) (zeros (2 * 152)) (s .fuel) .ended
 
 abbrev pub ending : Answer → Memory → Given
 ending (Answer.Refused r) m = refused (r .code) (r .position)
@@ -91,8 +91,12 @@ expected facts = map (λ (f : Fact). f .said) facts
 abbrev pub fact : Question → Given → Fact
 fact q g = record { asked = q; said = g }
 
+-- a line on page 0, and on another
 abbrev pub line : ℤ → ℕ → Line
-line n l = numberLine n l
+line n l = numberLine (pos 0) n l
+
+abbrev pub lineOn : ℤ → ℤ → ℕ → Line
+lineOn k n l = numberLine k n l
 
 -- the end line alone, with the label of the place
 abbrev pub ends : ℕ → List Line
@@ -158,23 +162,26 @@ sheetR1 =
     push 1 ++ (0x06 ∷ []) ++ push 0 ++ (0x06 ∷ 0x01 ∷ 0x04 ∷ []) ++ push 0 ++ (0x06 ∷ 0x04 ∷ [])
 
 -- C0 = 7 label 0, C1 = 5 label 1; then what is said of the reader, and the sheet
+abbrev pub jobOf : List ℕ → List ℕ → List ℕ
+jobOf sheet reader = (0x40 ∷ eight 7) ++ four 0 ++ (0x40 ∷ eight 5) ++ four 1 ++ reader ++ (0x43 ∷ sheet)
+
 abbrev pub jobR1 : List ℕ → List ℕ
-jobR1 reader = (0x40 ∷ eight 7) ++ four 0 ++ (0x40 ∷ eight 5) ++ four 1 ++ reader ++ (0x43 ∷ sheetR1)
+jobR1 reader = jobOf sheetR1 reader
 
 abbrev pub reader : ℕ → List ℕ
 reader set = 0x42 ∷ four set
 
--- `7 00000000`
+-- `0 7 00000000`
 abbrev pub lineSeven : List ℕ
-lineSeven = 0x37 ∷ 0x20 ∷ 0x30 ∷ 0x30 ∷ 0x30 ∷ 0x30 ∷ 0x30 ∷ 0x30 ∷ 0x30 ∷ 0x30 ∷ 0x0a ∷ []
+lineSeven = 0x30 ∷ 0x20 ∷ 0x37 ∷ 0x20 ∷ 0x30 ∷ 0x30 ∷ 0x30 ∷ 0x30 ∷ 0x30 ∷ 0x30 ∷ 0x30 ∷ 0x30 ∷ 0x0a ∷ []
 
--- `12 00000001`
+-- `0 12 00000001`
 abbrev pub lineTwelve : List ℕ
-lineTwelve = 0x31 ∷ 0x32 ∷ 0x20 ∷ 0x30 ∷ 0x30 ∷ 0x30 ∷ 0x30 ∷ 0x30 ∷ 0x30 ∷ 0x30 ∷ 0x31 ∷ 0x0a ∷ []
+lineTwelve = 0x30 ∷ 0x20 ∷ 0x31 ∷ 0x32 ∷ 0x20 ∷ 0x30 ∷ 0x30 ∷ 0x30 ∷ 0x30 ∷ 0x30 ∷ 0x30 ∷ 0x30 ∷ 0x31 ∷ 0x0a ∷ []
 
--- `end 00000000`
+-- `0 end 00000000`
 abbrev pub lineEnd : List ℕ
-lineEnd = 0x65 ∷ 0x6e ∷ 0x64 ∷ 0x20 ∷ 0x30 ∷ 0x30 ∷ 0x30 ∷ 0x30 ∷ 0x30 ∷ 0x30 ∷ 0x30 ∷ 0x30 ∷ 0x0a ∷ []
+lineEnd = 0x30 ∷ 0x20 ∷ 0x65 ∷ 0x6e ∷ 0x64 ∷ 0x20 ∷ 0x30 ∷ 0x30 ∷ 0x30 ∷ 0x30 ∷ 0x30 ∷ 0x30 ∷ 0x30 ∷ 0x30 ∷ 0x0a ∷ []
 
 -- ════════════════════════════════════════════════════════════════════════════════════════════
 -- The table
@@ -224,6 +231,18 @@ readings =
     ∷ only (from (pos 1 ∷ pos 0 ∷ pos 1 ∷ pos 1 ∷ negsuc 0 ∷ pos 0 ∷ pos 0 ∷ [])) (refused 7 0)
     ∷ []
 
+-- C1 on page 15, then C0 on page 0
+abbrev pub paging : List Command
+paging = Push (pos 1) ∷ Load ∷ OutputTo (pos 15) ∷ Push (pos 0) ∷ Load ∷ Output ∷ []
+
+-- `15 5 00000001`
+abbrev pub lineFive : List ℕ
+lineFive = 0x31 ∷ 0x35 ∷ 0x20 ∷ 0x35 ∷ 0x20 ∷ 0x30 ∷ 0x30 ∷ 0x30 ∷ 0x30 ∷ 0x30 ∷ 0x30 ∷ 0x30 ∷ 0x31 ∷ 0x0a ∷ []
+
+-- a row of Output's rule, for the command with a code: the value's label is 2, the place's 1
+abbrev pub outputRow : ℕ → List ℤ
+outputRow code = pos code ∷ pos 1 ∷ pos 2 ∷ negsuc 0 ∷ negsuc 0 ∷ pos 1 ∷ pos 3 ∷ []
+
 -- what they leave open
 abbrev pub storingLoaded : Setting
 storingLoaded = usual (Push (pos 1) ∷ Load ∷ Push (pos 0) ∷ Store ∷ [])
@@ -258,4 +277,21 @@ others =
     ∷ each (paid 1 (Push (pos 1) ∷ [])) (run 0 1 (ends 0))
     ∷ each (narrow 1 1_000_000 (Push (pos 1) ∷ Output ∷ [])) (run 8 2 (line (pos 1) 0 ∷ []))
     ∷ each (narrow 0 1 (Push (pos 1) ∷ [])) (run 8 1 [])
+    -- OutputTo writes to its page, Output and the end line to page 0; for reader 0 the page has page 0's lines only
+    ∷ (each (usual paging) (run 0 6 (lineOn (pos 15) (pos 5) 1 ∷ line (pos 7) 0 ∷ ends 0))
+    ++ (fact (pageFor (jobOf (encode paging) (reader 1))) (page (lineFive ++ lineSeven ++ lineEnd))
+    ∷ fact (pageFor (jobOf (encode paging) (reader 0))) (page (lineSeven ++ lineEnd))
+    ∷ []))
+    -- it is under Output's rule, with its own code in the rule memory; no command has the code 13
+    ∷ (fact
+    (rowAfter (usual (Push (pos 1) ∷ OutputTo (pos 0) ∷ [])))
+    (words (pos 12 ∷ pos 0 ∷ pos 0 ∷ negsuc 0 ∷ negsuc 0 ∷ pos 0 ∷ pos 0 ∷ []))
+    ∷ only (from (outputRow 4)) (run 0 0 (ends 0)))
+    ∷ only (from (outputRow 12)) (run 0 0 (ends 0))
+    ∷ only (from (outputRow 13)) (refused 7 0)
+    -- its stops: no value, no space
+    ∷ each (usual (OutputTo (pos 1) ∷ [])) (run 3 0 [])
+    ∷ each (narrow 0 1_000_000 (Push (pos 1) ∷ OutputTo (pos 1) ∷ [])) (run 8 1 [])
+    -- page 16 is refused, at the command's offset
+    ∷ each (usual (Ret ∷ OutputTo (pos 16) ∷ [])) (refused 12 1)
     ∷ []

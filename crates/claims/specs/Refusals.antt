@@ -49,7 +49,7 @@ abbrev pub FirstOf : List Check → Check
 FirstOf [] = λ r. ⊥
 FirstOf (c ∷ cs) = c before FirstOf cs
 
--- 1 to 3, the sheet: as reading it from the left gives them
+-- 1 to 3 and 12, the sheet: as reading it from the left gives them
 abbrev pub Sheet : List ℕ → Check
 Sheet sheet r = decode sheet ≡ Decode.refused r
 
@@ -94,7 +94,7 @@ Checks sheet m fuel own =
     let values = length (m .lent .cells .values) in
     let labels = length (m .lent .cells .labels) in
     FirstOf (
-    -- 1 to 3
+    -- 1 to 3 and 12
     Sheet sheet
     -- 4: the runs of the cells differ in length, else over 1,024
     ∷ Gives (values ≢ labels) (refusal 4 (min values labels))

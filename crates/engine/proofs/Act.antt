@@ -8,7 +8,7 @@ use native.Mathlib.Omega.{arith}
 use lib.IntN.{ℤ, pos, _+ℤ_}
 use Rattle.word.specs.Wrap.{Signed, residue}
 use Rattle.program.specs.declared.Command.{Command}
-use Rattle.program.specs.declared.Command.the-variants.{Add, Sub, Pop, Output, Push, Load, Store, Jump, Bnz, Call, Ret}
+use Rattle.program.specs.declared.Command.the-variants.{Add, Sub, Pop, Output, Push, Load, Store, Jump, Bnz, Call, Ret, OutputTo}
 use Rattle.program.specs.Command.{opcode, codeOf, operand}
 use Rattle.program.proofs.Codes.{code-residue}
 use Rattle.machine.specs.Rule.{Key, Verdict, denied, allowed, Ruler, rules}
@@ -31,7 +31,7 @@ use Rattle.engine.proofs.Link.Represents.{Represents, Sound, Simulates}
 use Rattle.engine.proofs.Link.Carried.{stop-simulates}
 use Rattle.engine.proofs.Link.Looks.{finding, askedFor, found, Looks}
 use Rattle.engine.proofs.Link.Command.{add-looks, sub-looks, pop-looks, output-looks, push-looks, load-looks}
-use Rattle.engine.proofs.Link.Command.{store-looks, jump-looks, bnz-looks, call-looks, ret-looks}
+use Rattle.engine.proofs.Link.Command.{store-looks, jump-looks, bnz-looks, call-looks, ret-looks, output-to-looks}
 
 -- ════════════════════════════════════════════════════════════════════════════════════════════
 -- What a command finds and does
@@ -56,6 +56,7 @@ module _ {room : ℕ} {o₀ : Memory.Output} {s : State} {l : Lent} {o : Memory.
   command-looks (Bnz n) to = bnz-looks r h on n (to n refl)
   command-looks Call to = call-looks r h on
   command-looks Ret to = ret-looks r h on
+  command-looks (OutputTo page) to = output-to-looks r h on page
 
 -- ════════════════════════════════════════════════════════════════════════════════════════════
 -- The rule between them

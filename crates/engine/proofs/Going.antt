@@ -30,9 +30,10 @@ pub record SameLengths (l : Lent) (o : Output) (l₀ : Lent) (o₀ : Output) : T
   pub numbers : length (o .numbers) ≡ length (o₀ .numbers)
   pub lineLabels : length (o .labels) ≡ length (o₀ .labels)
   pub kinds : length (o .kinds) ≡ length (o₀ .kinds)
+  pub pages : length (o .pages) ≡ length (o₀ .pages)
 
 pub same-start : (l : Lent) (o : Output) → SameLengths l o l o
-same-start l o = record { stack = refl; values = refl; labels = refl; numbers = refl; lineLabels = refl; kinds = refl }
+same-start l o = record { stack = refl; values = refl; labels = refl; numbers = refl; lineLabels = refl; kinds = refl; pages = refl }
 
 pub same-on : {l₂ l₁ l₀ : Lent} {o₂ o₁ o₀ : Output} → SameLengths l₂ o₂ l₁ o₁ → SameLengths l₁ o₁ l₀ o₀ → SameLengths l₂ o₂ l₀ o₀
 same-on s t =
@@ -43,13 +44,14 @@ same-on s t =
       numbers = s .numbers ∙ t .numbers;
       lineLabels = s .lineLabels ∙ t .lineLabels;
       kinds = s .kinds ∙ t .kinds;
+      pages = s .pages ∙ t .pages;
     }
 
 -- where only the output space was written to
 pub same-lines : {l l₀ : Lent} {o₁ o o₀ : Output} → length (o₁ .numbers) ≡ length (o .numbers) → length (o₁ .labels) ≡ length (o .labels)
-    → length (o₁ .kinds) ≡ length (o .kinds) → SameLengths l o l₀ o₀ → SameLengths l o₁ l₀ o₀
-same-lines {l = l} n m k s =
-    same-on {l₂ = l} {l₁ = l} (record { stack = refl; values = refl; labels = refl; numbers = n; lineLabels = m; kinds = k }) s
+    → length (o₁ .kinds) ≡ length (o .kinds) → length (o₁ .pages) ≡ length (o .pages) → SameLengths l o l₀ o₀ → SameLengths l o₁ l₀ o₀
+same-lines {l = l} n m k p s =
+    same-on {l₂ = l} {l₁ = l} (record { stack = refl; values = refl; labels = refl; numbers = n; lineLabels = m; kinds = k; pages = p }) s
 
 -- ════════════════════════════════════════════════════════════════════════════════════════════
 -- What is left to run

@@ -14,7 +14,7 @@ use Rattle.label.specs.declared.Stored.the-variants.{Of, Nothing}
 use Rattle.label.specs.Word.{stored}
 use Rattle.program.specs.Command.{opcodeOf}
 use Rattle.program.specs.Decode.{Decoded, refused, accepted, refusal, prepend, First, unknown, cut, whole}
-use Rattle.program.specs.Decode.{firstOpcode, decodeFirst, decodeFrom, decode, commandLimit}
+use Rattle.program.specs.Decode.{firstOpcode, permits, decodeIf, decodeFirst, decodeFrom, decode, commandLimit}
 use Rattle.program.specs.declared.Command.{Command}
 use Rattle.program.specs.declared.Refusal.{Refusal}
 use Rattle.machine.specs.Rule.{Ruler}
@@ -46,7 +46,11 @@ prepend-numbered c (accepted cs) h = tt
 first-numbered : (f : First) (at : ℕ) (rest : ℕ → Decoded) → ((width : ℕ) → Numbered (rest width)) → Numbered (decodeFirst f at rest)
 first-numbered unknown at rest h = omega arith
 first-numbered cut at rest h = omega arith
-first-numbered (whole c width) at rest h = prepend-numbered c (rest width) (h width)
+first-numbered (whole c width) at rest h = by (permits c)
+  where
+    by : (b : Bool) → Numbered (decodeIf b c at (rest width))
+    by true = prepend-numbered c (rest width) (h width)
+    by false = omega arith
 
 decode-numbered : (left at : ℕ) (bytes : List ℕ) → Numbered (decodeFrom left at bytes)
 unfolding decodeFrom

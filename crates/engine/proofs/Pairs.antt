@@ -14,8 +14,8 @@ use Rattle.machine.specs.declared.Kind.the-variants.{Number, End}
 use Rattle.machine.specs.Atom.{Atom, Line}
 use Rattle.machine.specs.Holds.{Each, LineHas}
 use Rattle.engine.specs.Memory.{Output, output, room}
-use Rattle.engine.specs.Layout.{kindWord, lineNumbers, lineLabels, lineKinds, linesLaid, paired, atomOf, kindOf, lineOf}
-use Rattle.engine.specs.Layout.{lineIn, linesOf}
+use Rattle.engine.specs.Layout.{kindWord, lineNumbers, lineLabels, lineKinds, linePages, linesLaid, paired, atomOf, kindOf}
+use Rattle.engine.specs.Layout.{lineOf, lineIn, linesOf}
 use Rattle.engine.proofs.Link.Stack.{lowLabel-id}
 
 module _ {A B C : Type 0} (make : A → B → C) where
@@ -38,11 +38,20 @@ module _ (o : Output) (written : ℕ) where
   abbrev atoms : List Atom
   atoms = paired atomOf (o .numbers) (o .labels)
 
+  abbrev with : Atom → ℤ → Atom × ℤ
+  with a w = (a, w)
+
+  abbrev kinded : List (Atom × ℤ)
+  kinded = paired with atoms (o .kinds)
+
   abbrev all : List Line
-  all = paired lineOf atoms (o .kinds)
+  all = paired lineOf kinded (o .pages)
+
+  kinded-length : length kinded ≡ min (min (length (o .numbers)) (length (o .labels))) (length (o .kinds))
+  kinded-length = paired-length with atoms (o .kinds) ∙ ap (λ n. min n (length (o .kinds))) (paired-length atomOf (o .numbers) (o .labels))
 
   all-length : length all ≡ room o
-  all-length = paired-length lineOf atoms (o .kinds) ∙ ap (λ n. min n (length (o .kinds))) (paired-length atomOf (o .numbers) (o .labels))
+  all-length = paired-length lineOf kinded (o .pages) ∙ ap (λ n. min n (length (o .pages))) kinded-length
 
   pub lines-length : length (linesOf written o) ≡ min written (room o)
   lines-length = length-take written all ∙ ap (λ n. min written n) all-length
@@ -51,10 +60,13 @@ module _ (o : Output) (written : ℕ) where
   lines-at i h =
       let fits : i < min written (room o) = omega (arith, lines-length) in
       let atom : Atom = atomOf (getD (o .numbers) i (pos 0)) (getD (o .labels) i (pos 0)) in
+      let kind : ℤ = getD (o .kinds) i (pos 0) in
       getD-take written all i (lineIn i o) (omega arith)
-      ∙ paired-at lineOf atom (pos 0) (lineIn i o) atoms (o .kinds) i (omega (arith, all-length))
-      ∙ ap (λ (a : Atom). lineOf a (getD (o .kinds) i (pos 0)))
-      (paired-at atomOf (pos 0) (pos 0) atom (o .numbers) (o .labels) i (omega (arith, paired-length atomOf (o .numbers) (o .labels))))
+      ∙ paired-at lineOf (atom, kind) (pos 0) (lineIn i o) kinded (o .pages) i (omega (arith, all-length))
+      ∙ ap (λ (x : Atom × ℤ). lineOf x (getD (o .pages) i (pos 0)))
+      (paired-at with atom (pos 0) (atom, kind) atoms (o .kinds) i (omega (arith, kinded-length))
+      ∙ ap (λ (a : Atom). (a, kind))
+      (paired-at atomOf (pos 0) (pos 0) atom (o .numbers) (o .labels) i (omega (arith, paired-length atomOf (o .numbers) (o .labels)))))
 
 kind-back : (k : Kind) → kindOf (kindWord k) ≡ k
 kind-back Number = refl
@@ -65,12 +77,12 @@ pub lines-read : (ls : List Line) (o : Output) → Each (LineHas (λ n. Unit) In
 unfolding laid paired
 lines-read ls o h =
     go ls (drop (length (lineNumbers ls)) (o .numbers)) (drop (length (lineLabels ls)) (o .labels))
-    (drop (length (lineKinds ls)) (o .kinds)) h
+    (drop (length (lineKinds ls)) (o .kinds)) (drop (length (linePages ls)) (o .pages)) h
   where
-    go : (ls : List Line) (ns ms ks : List ℤ) → Each (LineHas (λ n. Unit) InRange) ls
-        → linesOf (length ls) (output (lineNumbers ls ++ ns) (lineLabels ls ++ ms) (lineKinds ls ++ ks)) ≡ ls
-    go [] ns ms ks h = refl
-    go (l ∷ ls) ns ms ks h =
-        let rest : linesOf (length ls) (output (lineNumbers ls ++ ns) (lineLabels ls ++ ms) (lineKinds ls ++ ks)) ≡ ls =
-        go ls ns ms ks (h .1) in
+    go : (ls : List Line) (ns ms ks ps : List ℤ) → Each (LineHas (λ n. Unit) InRange) ls
+        → linesOf (length ls) (output (lineNumbers ls ++ ns) (lineLabels ls ++ ms) (lineKinds ls ++ ks) (linePages ls ++ ps)) ≡ ls
+    go [] ns ms ks ps h = refl
+    go (l ∷ ls) ns ms ks ps h =
+        let more : Output = output (lineNumbers ls ++ ns) (lineLabels ls ++ ms) (lineKinds ls ++ ks) (linePages ls ++ ps) in
+        let rest : linesOf (length ls) more ≡ ls = go ls ns ms ks ps (h .1) in
         rw (lowLabel-id (l .label) (h .0 .1), kind-back (l .kind), rest)

@@ -69,7 +69,12 @@ emitted w o = record { went = w; output = o }
 
 -- the words of a line at an index
 abbrev pub lineAt : ℕ → Line → Output → Output
-lineAt i x o = output (set (o .numbers) i (x .number)) (set (o .labels) i (pos (x .label))) (set (o .kinds) i (kindWord (x .kind)))
+lineAt i x o =
+    output
+    (set (o .numbers) i (x .number))
+    (set (o .labels) i (pos (x .label)))
+    (set (o .kinds) i (kindWord (x .kind)))
+    (set (o .pages) i (x .page))
 
 -- a line is written after those that are, where there is room, and then the run stands at w; without, it is stopped and nothing changes
 unfoldable pub writeOf : (room : ℕ) → Machine → Line → Went → Output → Emitted
@@ -82,7 +87,7 @@ writeOf room m x w o =
 unfoldable pub emitOf : (room : ℕ) → Machine → Stepped → Output → Emitted
 emitOf room m r o =
     choose (eqb (r .stop) prints)
-    (writeOf room m (numberLine (r .number) (r .label .0)) (went (r .machine) carriedOut) o)
+    (writeOf room m (numberLine (r .page) (r .number) (r .label .0)) (went (r .machine) carriedOut) o)
     (emitted (went (r .machine) (r .stop)) o)
 
 -- at the end of the program the end line and stop 0, else another stop

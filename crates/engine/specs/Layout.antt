@@ -32,7 +32,7 @@ stackWords (e ∷ es) = stackWords es ++ entryWords e
 abbrev pub cellWords : List Atom → Cells
 cellWords atoms = cells (map (λ a. a .number) atoms) (map (λ a. pos (a .label)) atoms)
 
--- a line is a number word, a label word and a kind word: 0 for a number, 1 for the end
+-- a line is a number word, a label word, a kind word, 0 for a number and 1 for the end, and a page word
 abbrev pub kindWord : Kind → ℤ
 kindWord Number = pos 0
 kindWord End = pos 1
@@ -46,10 +46,17 @@ lineLabels lines = map (λ l. pos (l .label)) lines
 abbrev pub lineKinds : List Line → List ℤ
 lineKinds lines = map (λ l. kindWord (l .kind)) lines
 
+abbrev pub linePages : List Line → List ℤ
+linePages lines = map (λ l. l .page) lines
+
 -- from the start of the output space on, the rest as it came
 abbrev pub linesLaid : List Line → Output → Output
 linesLaid lines o =
-    output (laid (lineNumbers lines) (o .numbers)) (laid (lineLabels lines) (o .labels)) (laid (lineKinds lines) (o .kinds))
+    output
+    (laid (lineNumbers lines) (o .numbers))
+    (laid (lineLabels lines) (o .labels))
+    (laid (lineKinds lines) (o .kinds))
+    (laid (linePages lines) (o .pages))
 
 -- what two runs hold, pair by pair, as far as the shorter goes
 unfoldable pub paired : {A B C : Type 0} → (A → B → C) → List A → List B → List C
@@ -68,20 +75,22 @@ cellsOf c = paired atomOf (c .values) (c .labels)
 abbrev pub kindOf : ℤ → Kind
 kindOf w = choose (isZero w) Number End
 
-abbrev pub lineOf : Atom → ℤ → Line
-lineOf a w = record { kind = kindOf w; number = a .number; label = a .label }
+-- and with a page word
+abbrev pub lineOf : Atom × ℤ → ℤ → Line
+lineOf (a, w) page = record { page = page; kind = kindOf w; number = a .number; label = a .label }
 
 -- the line at an index; beyond a run's end its word is 0
 abbrev pub lineIn : ℕ → Output → Line
-lineIn i o = lineOf (atomOf (getD (o .numbers) i (pos 0)) (getD (o .labels) i (pos 0))) (getD (o .kinds) i (pos 0))
+lineIn i o =
+    lineOf (atomOf (getD (o .numbers) i (pos 0)) (getD (o .labels) i (pos 0)), getD (o .kinds) i (pos 0)) (getD (o .pages) i (pos 0))
 
 -- the line that a record of the code is
 abbrev pub lineFrom : Code.Line → Line
-lineFrom x = record { kind = x .kind; number = x .number; label = x .label .0 }
+lineFrom x = record { page = x .page; kind = x .kind; number = x .number; label = x .label .0 }
 
 -- so many lines from the start on
 abbrev pub linesOf : ℕ → Output → List Line
-linesOf n o = take n (paired lineOf (paired atomOf (o .numbers) (o .labels)) (o .kinds))
+linesOf n o = take n (paired lineOf (paired (λ a w. (a, w)) (paired atomOf (o .numbers) (o .labels)) (o .kinds)) (o .pages))
 
 -- the stack space over a run: after each step the stack's words are laid over it, so that a dropped entry keeps its content
 abbrev pub stackLaid : State → List ℤ → List ℤ

@@ -5,18 +5,19 @@ use lib.IntN.{ℤ}
 use lib.ListN.{length}
 use Rattle.step.specs.Lent.{Lent}
 
--- the output space: numbers, labels and kinds of lines
+-- the output space: numbers, labels, kinds and pages of lines
 pub record Output : Type 0 where
   pub numbers : List ℤ
   pub labels : List ℤ
   pub kinds : List ℤ
+  pub pages : List ℤ
 
-abbrev pub output : (numbers labels kinds : List ℤ) → Output
-output numbers labels kinds = record { numbers = numbers; labels = labels; kinds = kinds }
+abbrev pub output : (numbers labels kinds pages : List ℤ) → Output
+output numbers labels kinds pages = record { numbers = numbers; labels = labels; kinds = kinds; pages = pages }
 
 -- the shortest run sets how many lines fit
 abbrev pub room : Output → ℕ
-room o = min (min (length (o .numbers)) (length (o .labels))) (length (o .kinds))
+room o = min (min (min (length (o .numbers)) (length (o .labels))) (length (o .kinds))) (length (o .pages))
 
 -- working space for commands, the stack and the cells, output space
 pub record Memory : Type 0 where

@@ -43,11 +43,11 @@ pub fn shorter(a: usize, b: usize) -> usize
     if a < b { a } else { b }
 }
 
-// How many lines fit: the shortest of the three runs.
-pub fn room(numbers: usize, labels: usize, kinds: usize) -> usize
-    ensures { λ r. ⌜ r ≡ min (min numbers labels) kinds ⌝ }
+// How many lines fit: the shortest of the four runs.
+pub fn room(numbers: usize, labels: usize, kinds: usize, pages: usize) -> usize
+    ensures { λ r. ⌜ r ≡ min (min (min numbers labels) kinds) pages ⌝ }
 {
-    shorter(shorter(numbers, labels), kinds)
+    shorter(shorter(shorter(numbers, labels), kinds), pages)
 }
 
 // A line's kind word: 0 for a number, 1 for the end.
@@ -69,19 +69,23 @@ fn kind_of(word: i64) -> Kind
 
 // A line of the output space.
 pub struct Line {
+    pub page: i64,
     pub kind: Kind,
     pub number: i64,
     pub label: Label,
 }
 
 // The line at an index; beyond a run's end its word is 0.
-pub fn line_at(numbers: &[i64], labels: &[i64], kinds: &[i64], i: usize) -> Line
-    ensures { λ r. ⌜ lineFrom r ≡ lineIn i (output (now (numbers .entry)) (now (labels .entry)) (now (kinds .entry))) ⌝ }
+pub fn line_at(numbers: &[i64], labels: &[i64], kinds: &[i64], pages: &[i64], i: usize) -> Line
+    ensures { λ r. ⌜ lineFrom r
+        ≡ lineIn i (output (now (numbers .entry)) (now (labels .entry)) (now (kinds .entry)) (now (pages .entry))) ⌝ }
 {
     let number = word::memory::at(numbers, i);
     let label = Label::low(word::memory::at(labels, i));
     let kind = kind_of(word::memory::at(kinds, i));
+    let page = word::memory::at(pages, i);
     Line {
+        page,
         kind,
         number,
         label,
@@ -97,9 +101,10 @@ fn write(
     numbers: &mut [i64],
     labels: &mut [i64],
     kinds: &mut [i64],
+    pages: &mut [i64],
 ) -> Went
-    ensures { λ w. ⌜ emitted w (output (now (numbers .exit)) (now (labels .exit)) (now (kinds .exit)))
-        ≡ writeOf room m (lineFrom line) after (output (now (numbers .entry)) (now (labels .entry)) (now (kinds .entry))) ⌝ }
+    ensures { λ w. ⌜ emitted w (output (now (numbers .exit)) (now (labels .exit)) (now (kinds .exit)) (now (pages .exit)))
+        ≡ writeOf room m (lineFrom line) after (output (now (numbers .entry)) (now (labels .entry)) (now (kinds .entry)) (now (pages .entry))) ⌝ }
 {
     let lines = m.lines;
     if lines < room {
@@ -108,6 +113,7 @@ fn write(
         word::memory::put(numbers, lines, line.number);
         word::memory::put(labels, lines, line.label.word());
         word::memory::put(kinds, lines, kind_word(kind));
+        word::memory::put(pages, lines, line.page);
         return Went {
             machine: machine.print(room),
             stop: after.stop,
@@ -127,16 +133,19 @@ pub fn emit(
     numbers: &mut [i64],
     labels: &mut [i64],
     kinds: &mut [i64],
+    pages: &mut [i64],
 ) -> Went
-    ensures { λ w. ⌜ emitted w (output (now (numbers .exit)) (now (labels .exit)) (now (kinds .exit)))
-        ≡ emitOf room m r (output (now (numbers .entry)) (now (labels .entry)) (now (kinds .entry))) ⌝ }
+    ensures { λ w. ⌜ emitted w (output (now (numbers .exit)) (now (labels .exit)) (now (kinds .exit)) (now (pages .exit)))
+        ≡ emitOf room m r (output (now (numbers .entry)) (now (labels .entry)) (now (kinds .entry)) (now (pages .entry))) ⌝ }
 {
     let machine = r.machine;
     let stop = r.stop;
     if stop == PRINTS {
+        let page = r.page;
         let number = r.number;
         let label = r.label;
         let line = Line {
+            page,
             kind: Kind::Number,
             number,
             label,
@@ -145,7 +154,7 @@ pub fn emit(
             machine,
             stop: CARRIED,
         };
-        return write(m, line, after, room, numbers, labels, kinds);
+        return write(m, line, after, room, numbers, labels, kinds, pages);
     }
     Went { machine, stop }
 }
@@ -161,7 +170,7 @@ fn at_end(m: Machine, count: usize) -> bool
     }
 }
 
-// At the end the end line, labelled with the place label, and stop 0; elsewhere another stop.
+// At the end the end line, on page 0 and labelled with the place label, and stop 0; elsewhere another stop.
 pub fn end_or(
     m: Machine,
     count: usize,
@@ -170,13 +179,15 @@ pub fn end_or(
     numbers: &mut [i64],
     labels: &mut [i64],
     kinds: &mut [i64],
+    pages: &mut [i64],
 ) -> Went
-    ensures { λ w. ⌜ emitted w (output (now (numbers .exit)) (now (labels .exit)) (now (kinds .exit)))
-        ≡ endOr count room m other (output (now (numbers .entry)) (now (labels .entry)) (now (kinds .entry))) ⌝ }
+    ensures { λ w. ⌜ emitted w (output (now (numbers .exit)) (now (labels .exit)) (now (kinds .exit)) (now (pages .exit)))
+        ≡ endOr count room m other (output (now (numbers .entry)) (now (labels .entry)) (now (kinds .entry)) (now (pages .entry))) ⌝ }
 {
     if at_end(m, count) {
         let label = m.label;
         let line = Line {
+            page: 0,
             kind: Kind::End,
             number: 0,
             label,
@@ -185,7 +196,7 @@ pub fn end_or(
             machine: m,
             stop: 0,
         };
-        return write(m, line, after, room, numbers, labels, kinds);
+        return write(m, line, after, room, numbers, labels, kinds, pages);
     }
     Went {
         machine: m,

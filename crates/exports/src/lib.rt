@@ -27,14 +27,15 @@ pub extern "C" fn luvrodan_plain(
     numbers: &mut [i64],
     line_labels: &mut [i64],
     kinds: &mut [i64],
+    pages: &mut [i64],
     fuel: u64,
 ) -> LuvrodanResult
     ensures { λ r. ⌜ plainLeft r
         (memory (now (program .exit)) (lent (now (stack .exit)) (cells (now (values .exit)) (now (labels .exit))))
-        (output (now (numbers .exit)) (now («line_labels» .exit)) (now (kinds .exit))))
+        (output (now (numbers .exit)) (now («line_labels» .exit)) (now (kinds .exit)) (now (pages .exit))))
         ≡ exportedPlain (now (sheet .entry))
         (memory (now (program .entry)) (lent (now (stack .entry)) (cells (now (values .entry)) (now (labels .entry))))
-        (output (now (numbers .entry)) (now («line_labels» .entry)) (now (kinds .entry))))
+        (output (now (numbers .entry)) (now («line_labels» .entry)) (now (kinds .entry)) (now (pages .entry))))
         fuel ⌝ }
 {
     let answer = plain::execute(
@@ -46,6 +47,7 @@ pub extern "C" fn luvrodan_plain(
         numbers,
         line_labels,
         kinds,
+        pages,
         fuel,
     );
     result::of_answer(answer, 0, 0)
@@ -65,23 +67,24 @@ pub extern "C" fn luvrodan_tagged(
     numbers: &mut [i64],
     line_labels: &mut [i64],
     kinds: &mut [i64],
+    pages: &mut [i64],
     fuel: u64,
 ) -> LuvrodanResult
     ensures left { λ r. ⌜ taggedLeft r (now («rule_memory» .exit))
         (memory (now (program .exit)) (lent (now (stack .exit)) (cells (now (values .exit)) (now (labels .exit))))
-        (output (now (numbers .exit)) (now («line_labels» .exit)) (now (kinds .exit))))
+        (output (now (numbers .exit)) (now («line_labels» .exit)) (now (kinds .exit)) (now (pages .exit))))
         (now (handler .exit))
         ≡ exportedTagged (now (sheet .entry)) (now (table .entry)) (now («rule_memory» .entry))
         (memory (now (program .entry)) (lent (now (stack .entry)) (cells (now (values .entry)) (now (labels .entry))))
-        (output (now (numbers .entry)) (now («line_labels» .entry)) (now (kinds .entry))))
+        (output (now (numbers .entry)) (now («line_labels» .entry)) (now (kinds .entry)) (now (pages .entry))))
         (now (handler .entry)) fuel ⌝ }
     ensures rules { λ r. ⌜ ExportedPromises (now (sheet .entry)) (now (table .entry))
         (memory (now (program .entry)) (lent (now (stack .entry)) (cells (now (values .entry)) (now (labels .entry))))
-        (output (now (numbers .entry)) (now («line_labels» .entry)) (now (kinds .entry))))
+        (output (now (numbers .entry)) (now («line_labels» .entry)) (now (kinds .entry)) (now (pages .entry))))
         (now (handler .entry)) fuel
         (taggedLeft r (now («rule_memory» .exit))
         (memory (now (program .exit)) (lent (now (stack .exit)) (cells (now (values .exit)) (now (labels .exit))))
-        (output (now (numbers .exit)) (now («line_labels» .exit)) (now (kinds .exit))))
+        (output (now (numbers .exit)) (now («line_labels» .exit)) (now (kinds .exit)) (now (pages .exit))))
         (now (handler .exit))) ⌝ }
 {
     let cache = row::given(rule_memory);
@@ -97,6 +100,7 @@ pub extern "C" fn luvrodan_tagged(
         numbers,
         line_labels,
         kinds,
+        pages,
         fuel,
     );
     row::leave(rule_memory, tagged.cache);

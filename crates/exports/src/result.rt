@@ -91,7 +91,7 @@ pub(crate) fn of_page(made: Outcome) -> LuvrodanPageResult
         },
         Outcome::Short => LuvrodanPageResult {
             status: 1,
-            length: 30720,
+            length: 33792,
         },
     }
 }

@@ -1,23 +1,24 @@
--- A translated rule ends the handler as the rule says, and the dispatch chooses the rule of the code.
+-- A translated rule ends the handler as the rule says, and the dispatch chooses the rule that the command with the code is under.
 -- Assumes nothing.
-use mathlib.Core.Path.{_≡_, refl, ap, _∙_}
+use mathlib.Core.Path.{_≡_, refl, sym, ap, _∙_}
 use mathlib.Core.Bool.{Bool, true, false}
 use mathlib.Core.List.{List, [], _∷_, _++_, append-assoc, map}
 use mathlib.Core.Option.{some}
-use Prim.Native.Nat.{ℕ, zero, suc, _+_, _^_, _<_, _≤_}
+use Prim.Native.Nat.{ℕ, zero, suc, _+_, _-_, _≤_}
 use native.Mathlib.Omega.{arith}
 use lib.IntN.{ℤ, pos, negsuc}
-use lib.ListN.{length, getElem?, length-append}
+use lib.ListN.{length, getElem?, take, drop, length-append}
 use lib.Dec.{eqb, eqb·suc-zero}
 use Rattle.word.specs.Wrap.{addWrap}
-use Rattle.program.specs.Command.{Opcode, supplies, hasResult}
+use Rattle.program.specs.Command.{Opcode, opcodes, codeOf, supplies, hasResult, ruleNumber}
+use Rattle.program.proofs.Codes.{opcodes-code, code-least, code-most}
 use Rattle.machine.specs.Rule.{Key, Verdict, allowedIf}
 use Rattle.policy.specs.Expression.{LabelExpr, Condition, flows, always, both, either, Rule, Table}
 use Rattle.policy.specs.Write.{conditionDepth, ConditionSupplied, LabelWritable, ResultWritable, RuleWritable}
-use Rattle.policy.specs.Evaluate.{evalLabel, evalCondition, evalRule}
+use Rattle.policy.specs.Evaluate.{evalLabel, evalCondition, ruleOf, evalRule}
 use Rattle.policy.specs.Row.{keyRow, faultRow}
 use Rattle.handler.specs.Kernel.{Instruction, Jump, Push, Bnz, Dup, Add, returned}
-use Rattle.handler.specs.Translate.{read, compileAnswer, compileIf, compileRule, guarded, slots, concat, translate}
+use Rattle.handler.specs.Translate.{read, compileAnswer, compileIf, compileRule, guarded, concat, slots, translate}
 use Rattle.handler.specs.Claim.{outcomeOf, rowOf}
 use Rattle.handler.proofs.Exec.{exec, Ending, ending}
 use Rattle.handler.proofs.Instruction.{exec-push, exec-store, exec-ret, exec-bnz, exec-bnz-zero, exec-denied, exec-over, exec-pass}
@@ -89,47 +90,56 @@ rule-run n o k a rest reads w =
 -- The dispatch
 -- ════════════════════════════════════════════════════════════════════════════════════════════
 
-pub slots-length : (bodies : List (List Instruction)) (before : ℕ) → length (slots before bodies) ≡ length bodies
-slots-length [] before = refl
-slots-length (b ∷ bs) before = ap suc (slots-length bs (before + length b))
+pub slots-length : (bodies : List (List Instruction)) (os : List Opcode) → length (slots bodies os) ≡ length os
+slots-length bodies [] = refl
+slots-length bodies (o ∷ os) = ap suc (slots-length bodies os)
 
--- passing over the slots, and over what stands between them and their bodies, comes to the first body; c is any number but 0
-pub slots-run : (n c : ℕ) (s w : List ℤ) (x : Ending) (b : List Instruction)
-    → ((rest : List Instruction) → exec n (b ++ rest) 0 s w ≡ x)
-    → (bodies : List (List Instruction)) (i : ℕ) (between : List Instruction) → getElem? bodies i ≡ some b
-    → exec n (slots (length between) bodies ++ (between ++ concat bodies)) i (pos (suc c) ∷ s) w ≡ x
-slots-run n c s w x b h [] i between e = let z : _≡_ {A = ℕ} 0 1 = cc in absurd (omega arith)
-slots-run n c s w x b h (body ∷ bs) zero between e =
-    let gap = slots (length between + length body) bs ++ between in
-    let l : length bs + length between ≡ length gap = simp (length-append, slots-length) in
-    let same : body ≡ b = cc in
-    exec-bnz n _ s w c (length bs + length between)
-    ∙ rw (← append-assoc (slots (length between + length body) bs) between (body ++ concat bs), l)
-    (exec-over n gap (body ++ concat bs) s w ∙ rw same (h (concat bs)))
-slots-run n c s w x b h (body ∷ bs) (suc i) between e =
-    exec-pass n _ _ i _ w
-    ∙ rw (← length-append between body, ← append-assoc between body (concat bs)) (slots-run n c s w x b h bs i (between ++ body) e)
+-- a body, behind those before it
+concat-at : (bodies : List (List Instruction)) (n : ℕ) (b : List Instruction) → getElem? bodies n ≡ some b
+    → concat bodies ≡ concat (take n bodies) ++ (b ++ concat (drop (suc n) bodies))
+concat-at [] n b e = let z : _≡_ {A = ℕ} 0 1 = cc in absurd (omega arith)
+concat-at (a ∷ bodies) zero b e = let same : a ≡ b = cc in rw same
+concat-at (a ∷ bodies) (suc n) b e = rw (concat-at bodies n b e) (sym (append-assoc a (concat (take n bodies)) _))
+
+-- a command's slot comes to the body of its rule; c is any number but 0
+module _ (n c : ℕ) (s w : List ℤ) (x : Ending) (bodies : List (List Instruction)) (o : Opcode) (b : List Instruction)
+    (body : getElem? bodies (ruleNumber o) ≡ some b) (runs : (rest : List Instruction) → exec n (b ++ rest) 0 s w ≡ x) where
+  slots-run : (os : List Opcode) (i : ℕ) → getElem? os i ≡ some o → exec n (slots bodies os ++ concat bodies) i (pos (suc c) ∷ s) w ≡ x
+  slots-run [] i e = let z : _≡_ {A = ℕ} 0 1 = cc in absurd (omega arith)
+  slots-run (p ∷ os) zero e =
+      let same : p ≡ o = cc in
+      let front = concat (take (ruleNumber o) bodies) in
+      let behind = b ++ concat (drop (suc (ruleNumber o)) bodies) in
+      let l : length os + length front ≡ length (slots bodies os ++ front) = simp (length-append, slots-length) in
+      rw same
+      (exec-bnz n _ s w c (length os + length front)
+      ∙ rw (concat-at bodies (ruleNumber o) b body, ← append-assoc (slots bodies os) front behind, l)
+      (exec-over n (slots bodies os ++ front) behind s w ∙ runs _))
+  slots-run (p ∷ os) (suc i) e = exec-pass n _ _ i _ w ∙ slots-run os i e
 
 element-map : (t : Table) (i : ℕ) (a : Rule) → getElem? t i ≡ some a → getElem? (map compileRule t) i ≡ some (compileRule a)
 element-map [] i a e = let z : _≡_ {A = ℕ} 0 1 = cc in absurd (omega arith)
 element-map (b ∷ t) zero a e = cc
 element-map (b ∷ t) (suc i) a e = element-map t i a e
 
--- from the start of the handler of t with the code i + 1 in the row's first word to the body of the rule i
-pub dispatch-run : (t : Table) (i : ℕ) (w : List ℤ) (x : Ending) (a : Rule) → i < 2 ^ 16 → getElem? w 0 ≡ some (pos (suc i))
-    → getElem? t i ≡ some a → ((rest : List Instruction) → exec (length (translate t)) (compileRule a ++ rest) 0 [] w ≡ x)
+-- from the start of the handler of t with a command's code in the row's first word to the body of the rule that the command is under
+pub dispatch-run : (t : Table) (o : Opcode) (w : List ℤ) (x : Ending) (a : Rule) → getElem? w 0 ≡ some (pos (codeOf o))
+    → ruleOf t o ≡ some a → ((rest : List Instruction) → exec (length (translate t)) (compileRule a ++ rest) 0 [] w ≡ x)
     → exec (length (translate t)) (translate t) 0 [] w ≡ x
-dispatch-run t i w x a small code rule h =
+dispatch-run t o w x a code rule h =
+    let i = codeOf o - 1 in
+    let c : codeOf o ≡ suc i = omega (arith, code-least o) in
     let bodies = map compileRule t in
     let n = length (translate t) in
-    let rest = slots 0 bodies ++ concat bodies in
-    let add : addWrap (pos 5) (pos (suc i)) ≡ pos (suc 5 + i) = addWrap-pos 5 (suc i) (omega arith) (omega arith) ∙ ap pos (omega arith) in
+    let rest = slots bodies opcodes ++ concat bodies in
+    let add : addWrap (pos 5) (pos (suc i)) ≡ pos (suc 5 + i) =
+    addWrap-pos 5 (suc i) (omega arith) (omega (arith, code-most o)) ∙ ap pos (omega arith) in
     let same : translate t ≡ read 0 ++ (Dup ∷ Push (pos 5) ∷ Add ∷ Jump ∷ rest) = unfold translate in refl in
     let l : n ≡ suc 5 + length rest = unfold translate in omega arith in
     ap (λ (c : List Instruction). exec n c 0 [] w) same
-    ∙ exec-read n (Dup ∷ Push (pos 5) ∷ Add ∷ Jump ∷ rest) [] w 0 (pos (suc i)) code (omega arith)
+    ∙ exec-read n (Dup ∷ Push (pos 5) ∷ Add ∷ Jump ∷ rest) [] w 0 (pos (suc i)) (code ∙ ap (λ m. some (pos m)) c) (omega arith)
     ∙ exec-dup n _ [] w _ (omega arith)
     ∙ exec-push n _ _ w (pos 5) (omega arith)
     ∙ exec-add n _ _ w (pos 5) (pos (suc i))
     ∙ rw add (exec-jump n rest (pos (suc i) ∷ []) w 5 i l)
-    ∙ slots-run n i [] w x (compileRule a) h bodies i [] (element-map t i a rule)
+    ∙ slots-run n i [] w x bodies o (compileRule a) (element-map t (ruleNumber o) a rule) h opcodes i (opcodes-code o)

@@ -4,20 +4,19 @@ use mathlib.Core.Path.{_≡_, refl, sym, ap, subst, _∙_}
 use mathlib.Core.Bool.{Bool, true, false}
 use mathlib.Core.List.{List, [], _∷_}
 use mathlib.Core.Option.{some}
-use Prim.Native.Nat.{ℕ, zero, suc, _-_}
+use Prim.Native.Nat.{ℕ, zero, suc}
 use native.Mathlib.Omega.{arith}
-use lib.IntN.{pos}
 use lib.ListN.{length, getElem?}
 use borrow.Author.Tests.{le-leb}
 use Rattle.word.proofs.Bool.{never}
-use Rattle.program.specs.Command.{Opcode, opcodes, codeOf, supplies}
-use Rattle.program.proofs.Codes.{opcodes-code, code-least, code-most}
+use Rattle.program.specs.Command.{Opcode, ruled, supplies, ruleNumber}
 use Rattle.machine.specs.Rule.{Input, present, missing, Key, Verdict, denied, allowed}
 use Rattle.machine.specs.Holds.{Marked, WellMarked}
 use Rattle.policy.specs.Expression.{Rule, Table}
 use Rattle.policy.specs.Write.{RuleWritable, RulesWritable, TableWritable}
 use Rattle.policy.specs.Evaluate.{evalRule, evaluate}
 use Rattle.policy.specs.Row.{faultRow}
+use Rattle.policy.proofs.Ruled.{under}
 use Rattle.handler.specs.Kernel.{ends, handle}
 use Rattle.handler.specs.Translate.{translate}
 use Rattle.handler.specs.Claim.{outcomeOf, Handled}
@@ -45,7 +44,7 @@ marked-reads k h =
       input3 = λ l. marked-readable _ (k .input3) (h .input3) (le-leb 3 _ l);
     }
 
--- the rule of a command, in a table that has one for each
+-- a rule of a table that has one for each command of a list
 rules-rule : (os : List Opcode) (t : Table) (i : ℕ) (o : Opcode) → RulesWritable os t → getElem? os i ≡ some o
     → (a : Rule) × (getElem? t i ≡ some a) × RuleWritable o a
 rules-rule [] t i o w e = let z : _≡_ {A = ℕ} 0 1 = cc in absurd (omega arith)
@@ -58,14 +57,11 @@ module _ (t : Table) (k : Key) (well : TableWritable t) (marked : WellMarked k) 
   unfolding evaluate
   exec-handler =
       let o = k .opcode in
-      let c : codeOf o ≡ suc (codeOf o - 1) = omega (arith, code-least o) in
-      let (a, e, w) = rules-rule opcodes t (codeOf o - 1) o (well .rules) (opcodes-code o) in
+      let u = under o in
+      let (a, e, w) = rules-rule ruled t (ruleNumber o) (u .owner) (well .rules) (u .at) in
       rw e
-      (dispatch-run t (codeOf o - 1) (faultRow k) (endingFor k (evalRule (some a) k)) a
-      (omega (arith, code-most o))
-      (ap (λ (c : ℕ). some (pos c)) c)
-      e
-      (λ rest. rule-run (length (translate t)) o k a rest (marked-reads k marked) w))
+      (dispatch-run t o (faultRow k) (endingFor k (evalRule (some a) k)) a refl e
+      (λ rest. rule-run (length (translate t)) (u .owner) k a rest (rw (u .inputs) (marked-reads k marked)) w))
 
   handler-ending : endingOf (handle (translate t) (faultRow k)) ≡ endingFor k (evaluate t k)
   unfolding handle

@@ -2,15 +2,15 @@
 -- Assumes nothing.
 use mathlib.Core.Path.{_≡_, refl, ap}
 use mathlib.Core.List.{List, [], _∷_, _++_, map}
-use Prim.Native.Nat.{ℕ, suc, _+_, _*_, _≤_}
+use Prim.Native.Nat.{ℕ, zero, suc, _+_, _*_, _≤_}
 use native.Mathlib.Omega.{arith}
 use lib.ListN.{length, length-append, length-map}
 use Rattle.policy.specs.Expression.{LabelExpr, empty, place, input1, input2, input3, join, Condition, flows, always, both, either}
 use Rattle.policy.specs.Expression.{Rule, Table}
 use Rattle.handler.specs.Kernel.{Instruction}
-use Rattle.handler.specs.Translate.{compileLabel, compileCondition, compileAnswer, compileIf, compileRule, guarded, slots, concat}
-use Rattle.handler.specs.Translate.{translate}
-use Rattle.program.specs.Command.{Opcode, opcodes}
+use Rattle.handler.specs.Translate.{compileLabel, compileCondition, compileAnswer, compileIf, compileRule, guarded, concat, before}
+use Rattle.handler.specs.Translate.{slots, translate}
+use Rattle.program.specs.Command.{Opcode, ruled, ruleNumber}
 use Rattle.policy.specs.Write.{writeLabel, writeCondition, writeTable, RulesWritable, TableWritable}
 use Rattle.handler.specs.Claim.{Forward, none, straight, branch, deny}
 use Rattle.handler.proofs.Dispatch.{slots-length}
@@ -56,7 +56,7 @@ unfolding writeTable
 bodies-length [] = omega arith
 bodies-length (a ∷ t) = simp length-append (omega (arith, rule-length a, bodies-length t))
 
-pub rules-length : (os : List Opcode) (t : Table) → RulesWritable os t → length t ≡ length os
+rules-length : (os : List Opcode) (t : Table) → RulesWritable os t → length t ≡ length os
 rules-length [] [] w = refl
 rules-length [] (r ∷ t) w = absurd w
 rules-length (o ∷ os) [] w = absurd w
@@ -67,7 +67,7 @@ pub handler-length : (t : Table) → TableWritable t → length (translate t) �
 unfolding translate
 handler-length t well =
     simp (length-append, slots-length, length-map)
-    (omega (arith, rules-length opcodes t (well .rules), well .size, bodies-length t))
+    (omega (arith, rules-length ruled t (well .rules), well .size, bodies-length t))
 
 -- ════════════════════════════════════════════════════════════════════════════════════════════
 -- Jumps
@@ -117,11 +117,16 @@ pub bodies-forward : (t : Table) → Forward (concat (map compileRule t))
 bodies-forward [] = none
 bodies-forward (a ∷ t) = forward-append (rule-forward a) (bodies-forward t)
 
-pub slots-forward : (bodies : List (List Instruction)) (before : ℕ) (code : List Instruction)
-    → before + length (concat bodies) ≤ length code → Forward code → Forward (slots before bodies ++ code)
-slots-forward [] before code h f = f
-slots-forward (b ∷ bs) before code h f =
-    let l = length-append b (concat bs) in
-    branch {d = length bs + before} {rest = slots (before + length b) bs ++ code}
-    (simp (length-append, slots-length) (omega arith))
-    (slots-forward bs (before + length b) code (omega arith) f)
+-- no body stands past the end
+pub before-most : (bodies : List (List Instruction)) (n : ℕ) → before bodies n ≤ length (concat bodies)
+before-most bodies zero = omega arith
+before-most [] (suc n) = omega arith
+before-most (b ∷ bs) (suc n) = simp length-append (omega (arith, before-most bs n))
+
+pub slots-forward : (bodies : List (List Instruction)) (os : List Opcode) → Forward (concat bodies)
+    → Forward (slots bodies os ++ concat bodies)
+slots-forward bodies [] f = f
+slots-forward bodies (o ∷ os) f =
+    branch {d = length os + before bodies (ruleNumber o)} {rest = slots bodies os ++ concat bodies}
+    (simp (length-append, slots-length) (omega (arith, before-most bodies (ruleNumber o))))
+    (slots-forward bodies os f)

@@ -4,7 +4,7 @@ use mathlib.Core.Path.{_≡_, refl}
 use mathlib.Core.List.{List, _++_, map}
 use Prim.Native.Nat.{ℕ}
 use native.Mathlib.Omega.{arith}
-use lib.ListN.{length-append, length-map}
+use lib.ListN.{length-append}
 use Rattle.program.specs.Command.{opcodes}
 use Rattle.program.proofs.Codes.{code-least, code-most}
 use Rattle.policy.specs.Expression.{Table}
@@ -12,24 +12,24 @@ use Rattle.policy.specs.Read.{ReadTable, refused, table, readTable}
 use Rattle.policy.specs.Write.{TableWritable}
 use Rattle.policy.proofs.Writable.{read-writable}
 use Rattle.handler.specs.Kernel.{Instruction}
-use Rattle.handler.specs.Translate.{compileRule, slots, concat, translate}
+use Rattle.handler.specs.Translate.{compileRule, concat, slots, translate}
 use Rattle.handler.specs.Claim.{Jumps, Sound, Handles}
 use Rattle.handler.proofs.Dispatch.{slots-length}
 use Rattle.handler.proofs.Handler.{handler-run}
-use Rattle.handler.proofs.Shape.{rules-length, handler-length, bodies-forward, slots-forward}
+use Rattle.handler.proofs.Shape.{handler-length, bodies-forward, slots-forward}
 
 -- there is a slot for each command
-handler-jumps : (t : Table) → TableWritable t → Jumps (translate t)
+handler-jumps : (t : Table) → Jumps (translate t)
 unfolding translate
-handler-jumps t well =
+handler-jumps t =
     let bodies = map compileRule t in
     record {
-      rest = slots 0 bodies ++ concat bodies;
+      rest = slots bodies opcodes ++ concat bodies;
       dispatched = refl;
-      written = slots-forward bodies 0 (concat bodies) (omega arith) (bodies-forward t);
+      written = slots-forward bodies opcodes (bodies-forward t);
       computed = λ o. (
         omega (arith, code-least o),
-        simp (length-append, slots-length, length-map) (omega (arith, code-most o, rules-length opcodes t (well .rules))),
+        simp (length-append, slots-length) (omega (arith, code-most o)),
       );
     }
 
@@ -38,7 +38,7 @@ handler-sound t well =
     record {
       least = unfold translate in omega arith;
       most = handler-length t well;
-      jumps = handler-jumps t well;
+      jumps = handler-jumps t;
       faults = λ k marked. handler-run t k well marked;
     }
 

@@ -1,10 +1,11 @@
 -- The translation of a rule table into a handler. Zero means yes: a condition is translated to instructions that leave 0 exactly where
--- it holds. The code of the command chooses the rule by a computed jump, seven steps for every command; a rule's instructions always
--- end the handler.
+-- it holds. The code of the command chooses its slot by a computed jump, and the slot branches to the rule that the command is under: seven
+-- steps for every command. A rule's instructions always end the handler.
 use Prim.Native.Nat.{ℕ, suc, _+_}
 use mathlib.Core.List.{List, [], _∷_, _++_, map}
 use lib.IntN.{pos, negsuc}
-use lib.ListN.{length}
+use lib.ListN.{length, take}
+use Rattle.program.specs.Command.{Opcode, opcodes, ruleNumber}
 use Rattle.policy.specs.Expression.{LabelExpr, empty, place, input1, input2, input3, join, Condition, flows, always, both, either}
 use Rattle.policy.specs.Expression.{Rule, Table}
 use Rattle.policy.specs.Read.{ReadTable, refused, table}
@@ -53,22 +54,30 @@ compileIf (either a b) code = guarded (either a b) code
 unfoldable pub compileRule : Rule → List Instruction
 compileRule r = compileIf (r .allowed) (compileAnswer r)
 
--- the bodies one after the other, and before them a slot each that branches to its body; `before` instructions stand between the slots
--- and the first of these bodies
+-- the rules' instructions, their bodies, one after the other
 abbrev pub concat : List (List Instruction) → List Instruction
 concat [] = []
 concat (b ∷ bs) = b ++ concat bs
 
-abbrev pub slots : ℕ → List (List Instruction) → List Instruction
-slots before [] = []
-slots before (b ∷ bs) = Bnz (pos (suc (length bs + before))) ∷ slots (before + length b) bs
+-- how many instructions stand before a rule's body
+abbrev pub before : List (List Instruction) → ℕ → ℕ
+before bodies n = length (concat (take n bodies))
+
+-- a slot for each command: it branches, over the slots that are left, to the body of the rule that the command is under
+abbrev pub slots : List (List Instruction) → List Opcode → List Instruction
+slots bodies [] = []
+slots bodies (o ∷ os) = Bnz (pos (suc (length os + before bodies (ruleNumber o)))) ∷ slots bodies os
 
 -- the slot of the code c is instruction 5 + c; the code stays on the stack for the slot's branch, which is taken since no code is 0
 abbrev pub dispatch : List Instruction
 dispatch = Push (pos 0) ∷ Load ∷ Dup ∷ Push (pos 5) ∷ Add ∷ Jump ∷ []
 
+-- the slots stand before the bodies; commands under one rule share its body
+abbrev pub handlerWith : List (List Instruction) → List Instruction
+handlerWith bodies = dispatch ++ slots bodies opcodes ++ concat bodies
+
 unfoldable pub translate : Table → List Instruction
-translate t = let bodies = map compileRule t in dispatch ++ slots 0 bodies ++ concat bodies
+translate t = handlerWith (map compileRule t)
 
 -- of bytes that were read: what is no table has no handler
 abbrev pub handlerOf : ReadTable → List Instruction

@@ -10,13 +10,13 @@ use lib.Dec.{leb, ltb}
 use Rattle.word.specs.Exact.{isSigned}
 use Rattle.label.specs.Label.{InRange}
 use Rattle.program.specs.declared.Command.{Command}
-use Rattle.program.specs.declared.Command.the-variants.{Add, Sub, Pop, Output, Push, Load, Store, Jump, Bnz, Call, Ret}
+use Rattle.program.specs.declared.Command.the-variants.{Add, Sub, Pop, Output, Push, Load, Store, Jump, Bnz, Call, Ret, OutputTo}
 use Rattle.program.specs.Command.{supplies}
 use Rattle.machine.specs.Atom.{Atom, Entry, value, frame}
 use Rattle.machine.specs.Rule.{Input, present, missing, Key}
 use Rattle.machine.specs.State.{State, overflow, stackFull, outputFull}
 use Rattle.machine.specs.Stopped.{denies}
-use Rattle.machine.specs.Step.{Outcome, stopped, stepped, Request, halt, ask, of, making, request, keyOf}
+use Rattle.machine.specs.Step.{Outcome, stopped, stepped, Request, halt, ask, of, making, outputting, request, keyOf}
 use Rattle.machine.specs.Step.{stackLimit, withValue, withValues, withFrame, withCell}
 use Rattle.machine.specs.Holds.{Each, AtomHas, EntryHas, LabelsInRange, InputHas, KeyHas, Marked, WellMarked}
 use Rattle.machine.proofs.Request.{value-all, values-all, frame-all, cell-all, provided-all}
@@ -88,16 +88,20 @@ module _ (room : ℕ) (s : State) (h : LabelsInRange s) where
         λ q r. provided-all Roomy (isSigned 64 (make (a .number) (b .number))) overflow _ (λ e. tt) (λ e. refl),
       ))
 
+  outputting-asks : (c : Command) (page : ℤ) → ((a : Atom) → InRange (a .label) → WellMarked (keyOf c s (of a) missing missing))
+      → Asks c s (outputting room s page)
+  outputting-asks c page marked =
+      value-asks s h c _ (λ a rest ha. (
+        marked a ha,
+        λ q r. provided-all Roomy (ltb (length (s .lines)) room) outputFull _ (λ e. tt) (λ e. refl),
+      ))
+
   pub request-asks : (c : Command) → Asks c s (request room c s)
   unfolding request
   request-asks Add = making-asks Add _+ℤ_ (λ a b ha hb. record { pc = p; input1 = ha; input2 = hb; input3 = tt })
   request-asks Sub = making-asks Sub _-ℤ_ (λ a b ha hb. record { pc = p; input1 = ha; input2 = hb; input3 = tt })
   request-asks Pop = value-asks s h Pop _ (λ a rest ha. (record { pc = p; input1 = ha; input2 = tt; input3 = tt }, λ q r. tt))
-  request-asks Output =
-      value-asks s h Output _ (λ a rest ha. (
-        record { pc = p; input1 = ha; input2 = tt; input3 = tt },
-        λ q r. provided-all Roomy (ltb (length (s .lines)) room) outputFull _ (λ e. tt) (λ e. refl),
-      ))
+  request-asks Output = outputting-asks Output _ (λ a ha. record { pc = p; input1 = ha; input2 = tt; input3 = tt })
   request-asks (Push n) = (
     record { pc = p; input1 = tt; input2 = tt; input3 = tt },
     λ q r. provided-all Roomy (ltb (length (s .stack)) stackLimit) stackFull _ (λ e. tt) (λ e. refl),
@@ -112,6 +116,7 @@ module _ (room : ℕ) (s : State) (h : LabelsInRange s) where
   request-asks (Bnz n) = value-asks s h (Bnz n) _ (λ a rest ha. (record { pc = p; input1 = ha; input2 = tt; input3 = tt }, λ q r. tt))
   request-asks Call = values-asks s h Call _ (λ a b rest ha hb. (record { pc = p; input1 = ha; input2 = tt; input3 = tt }, λ q r. tt))
   request-asks Ret = frame-asks s h Ret _ (λ a rest ha. (record { pc = p; input1 = ha; input2 = tt; input3 = tt }, λ q r. tt))
+  request-asks (OutputTo page) = outputting-asks (OutputTo page) page (λ a ha. record { pc = p; input1 = ha; input2 = tt; input3 = tt })
 
   -- whatever a command asks with has its marks, and labels in range
   pub request-marked : (c : Command) (l1 l2 l3 : Input) (k : ℕ → ℕ → Outcome) → request room c s ≡ ask l1 l2 l3 k

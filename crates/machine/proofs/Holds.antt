@@ -16,14 +16,14 @@ use Rattle.word.proofs.Bool.{never}
 use Rattle.label.specs.Label.{InRange, bottom}
 use Rattle.label.proofs.Laws.{join-range}
 use Rattle.program.specs.declared.Command.{Command}
-use Rattle.program.specs.declared.Command.the-variants.{Add, Sub, Pop, Output, Push, Load, Store, Jump, Bnz, Call, Ret}
-use Rattle.program.specs.Command.{Opcode, add, sub, pop, output, push, load, store, jump, bnz, call, ret}
+use Rattle.program.specs.declared.Command.the-variants.{Add, Sub, Pop, Output, Push, Load, Store, Jump, Bnz, Call, Ret, OutputTo}
+use Rattle.program.specs.Command.{Opcode, add, sub, pop, output, push, load, store, jump, bnz, call, ret, outputTo}
 use Rattle.machine.specs.Atom.{Atom, Entry, value, frame, Line, numberLine, endLine}
 use Rattle.machine.specs.Rule.{Input, present, missing, Verdict, denied, allowed, Policy, Ruler, rules, standard}
 use Rattle.machine.specs.Rule.{labelOf, allowedIf, rule}
 use Rattle.machine.specs.State.{State, overflow, stackFull, outputFull}
 use Rattle.machine.specs.Step.{Request, halt, ask, stackLimit, withValue, withValues, withFrame, withCell, atom}
-use Rattle.machine.specs.Step.{branch, keyOf, decide, consult, making, request, execute}
+use Rattle.machine.specs.Step.{branch, keyOf, decide, consult, making, outputting, request, execute}
 use Rattle.machine.specs.Run.{step, closed, run}
 use Rattle.machine.specs.Stopped.{CommandAt, Makes, sum, difference, Made, number}
 use Rattle.machine.specs.Holds.{Each, AtomHas, EntryHas, LineHas, Holds, LabelsInRange, NumbersSigned, InputHas, Answers, ProgramHas}
@@ -44,7 +44,7 @@ each-set P [] i a p h = tt
 each-set P (b ∷ l) zero a p h = (p, h .1)
 each-set P (b ∷ l) (suc i) a p h = (h .0, each-set P l i a p (h .1))
 
-each-snoc : (P : Line → Type 0) (l : List Line) (a : Line) → Each P l → P a → Each P (l ++ (a ∷ []))
+pub each-snoc : (P : Line → Type 0) (l : List Line) (a : Line) → Each P l → P a → Each P (l ++ (a ∷ []))
 each-snoc P [] a h p = (p, tt)
 each-snoc P (b ∷ l) a h p = (h .0, each-snoc P l a (h .1) p)
 
@@ -108,23 +108,26 @@ module _ (N : ℤ → Type 0) (L : ℕ → Type 0) (s : State) (h : Holds N L s)
             (λ t. tt),
       ))
 
-  request-keeps : (room : ℕ) (c : Command) → Brings N c s → Keeps (request room c s)
-  unfolding request
-  request-keeps room Add new = making-keeps Add _ sum new
-  request-keeps room Sub new = making-keeps Sub _ difference new
-  request-keeps room Pop new = value-keeps _ (λ a rest ha hs. (ha .1, tt, tt, λ p r hp hr. moved (new .following, hp) hs))
-  request-keeps room Output new =
+  outputting-keeps : (room : ℕ) (c : Command) (page : ℤ) → Brings N c s → Keeps (outputting room s page)
+  outputting-keeps room c page new =
       value-keeps _ (λ a rest ha hs. (
         ha .1,
         tt,
         tt,
         λ p r hp hr.
-            let written : Each (LineHas N L) (s .lines ++ (numberLine (a .number) r ∷ [])) =
+            let written : Each (LineHas N L) (s .lines ++ (numberLine page (a .number) r ∷ [])) =
             each-snoc (LineHas N L) (s .lines) _ (h .lines) (ha .0, hr) in
             provided-all (Gives (Holds N L)) (ltb (length (s .lines)) room) outputFull _
             (λ e. record { pc = (new .following, hp); stack = hs; memory = h .memory; lines = written })
             (λ e. tt),
       ))
+
+  request-keeps : (room : ℕ) (c : Command) → Brings N c s → Keeps (request room c s)
+  unfolding request
+  request-keeps room Add new = making-keeps Add _ sum new
+  request-keeps room Sub new = making-keeps Sub _ difference new
+  request-keeps room Pop new = value-keeps _ (λ a rest ha hs. (ha .1, tt, tt, λ p r hp hr. moved (new .following, hp) hs))
+  request-keeps room Output new = outputting-keeps room Output _ new
   request-keeps room (Push n) new = (
     tt,
     tt,
@@ -159,6 +162,7 @@ module _ (N : ℤ → Type 0) (L : ℕ → Type 0) (s : State) (h : Holds N L s)
   request-keeps room Call new =
       values-keeps _ (λ a b rest ha hb hs. (ha .1, tt, tt, λ p r hp hr. moved (ha .0, hp) (hb, ((new .following, hr), hs))))
   request-keeps room Ret new = frame-keeps _ (λ a rest ha hs. (ha .1, tt, tt, λ p r hp hr. moved (ha .0, hp) hs))
+  request-keeps room (OutputTo page) new = outputting-keeps room (OutputTo page) page new
 
 -- the end line has the number 0 and the place label
 closed-holds : (N : ℤ → Type 0) (L : ℕ → Type 0) → N (pos 0) → (s : State) → Holds N L s → Holds N L (closed s)
@@ -263,6 +267,7 @@ rule-range jump p l1 l2 l3 hp h1 h2 h3 = (search ranges, search ranges)
 rule-range bnz p l1 l2 l3 hp h1 h2 h3 = (search ranges, search ranges)
 rule-range call p l1 l2 l3 hp h1 h2 h3 = (search ranges, search ranges)
 rule-range ret p l1 l2 l3 hp h1 h2 h3 = (search ranges, search ranges)
+rule-range outputTo p l1 l2 l3 hp h1 h2 h3 = (search ranges, search ranges)
 
 pub standard-range : Answers InRange standard
 unfolding standard

@@ -9,3 +9,4 @@ pub mod Exact
 pub mod Asked
 pub mod Privacy
 pub mod End
+pub mod Page

@@ -14,16 +14,17 @@ pub data Entry : Type 0 where
   value : Atom → Entry
   frame : Atom → Entry
 
--- a line: its kind, its number and its label; two lines are equal exactly if all three are
+-- a line: its page, which is 0 to 15, its kind, its number and its label; two lines are equal exactly if all four are
 pub record Line : Type 0 where
+  pub page : ℤ
   pub kind : Kind
   pub number : ℤ
   pub label : ℕ
 
--- an Output's: the number that it drops, with its result label
-abbrev pub numberLine : ℤ → ℕ → Line
-numberLine n l = record { kind = Number; number = n; label = l }
+-- an Output's or OutputTo's: on a page the number that it drops, with its result label
+abbrev pub numberLine : ℤ → ℤ → ℕ → Line
+numberLine page n l = record { page = page; kind = Number; number = n; label = l }
 
--- the last line of a run that met stop 0: "end", its number 0, with the place label
+-- the last line of a run that met stop 0: "end" on page 0, its number 0, with the place label
 abbrev pub endLine : ℕ → Line
-endLine p = record { kind = End; number = pos 0; label = p }
+endLine p = record { page = pos 0; kind = End; number = pos 0; label = p }

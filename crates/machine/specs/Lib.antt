@@ -8,3 +8,4 @@ pub mod Holds
 pub mod Exact
 pub mod Claim
 pub mod End
+pub mod Page

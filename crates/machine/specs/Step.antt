@@ -7,7 +7,7 @@ use lib.ListN.{length, set}
 use lib.Dec.{ltb}
 use Rattle.word.specs.Exact.{isSigned}
 use Rattle.program.specs.declared.Command.{Command}
-use Rattle.program.specs.declared.Command.the-variants.{Add, Sub, Pop, Output, Push, Load, Store, Jump, Bnz, Call, Ret}
+use Rattle.program.specs.declared.Command.the-variants.{Add, Sub, Pop, Output, Push, Load, Store, Jump, Bnz, Call, Ret, OutputTo}
 use Rattle.program.specs.Command.{opcode}
 use Rattle.machine.specs.Atom.{Atom, Entry, value, frame, Line, numberLine}
 use Rattle.machine.specs.Rule.{Input, present, missing, Key, Verdict, denied, allowed, Policy}
@@ -91,7 +91,7 @@ storing s p stack i a =
       steps = suc (s .steps);
     })
 
--- Output's effect: one line more
+-- Output's and OutputTo's effect: one line more
 abbrev pub printing : State → ℕ → List Entry → Line → Outcome
 printing s p stack l =
     stepped (record {
@@ -124,6 +124,14 @@ making s make =
     provided (isSigned 64 (make (a .number) (b .number))) overflow
     (next s p (value (atom (make (a .number) (b .number)) r) ∷ rest))))
 
+-- Output and OutputTo: a line on a page, where there is room for it
+abbrev pub outputting : ℕ → State → ℤ → Request
+outputting room s page =
+    withValue (s .stack) (λ a rest.
+    ask (of a) missing missing (λ p r.
+    provided (ltb (length (s .lines)) room) outputFull
+    (printing s p rest (numberLine page (a .number) r))))
+
 -- what each command comes to; `room` is how many lines fit
 unfoldable pub request : ℕ → Command → State → Request
 request room Add s = making s _+ℤ_
@@ -131,11 +139,7 @@ request room Sub s = making s _-ℤ_
 request room Pop s =
     withValue (s .stack) (λ a rest.
     ask (of a) missing missing (λ p r. next s p rest))
-request room Output s =
-    withValue (s .stack) (λ a rest.
-    ask (of a) missing missing (λ p r.
-    provided (ltb (length (s .lines)) room) outputFull
-    (printing s p rest (numberLine (a .number) r))))
+request room Output s = outputting room s (pos 0)
 request room (Push n) s =
     ask missing missing missing (λ p r.
     provided (ltb (length (s .stack)) stackLimit) stackFull
@@ -161,6 +165,7 @@ request room Call s =
 request room Ret s =
     withFrame (s .stack) (λ a rest.
     ask (of a) missing missing (λ p r. goto s (atom (a .number) p) rest))
+request room (OutputTo page) s = outputting room s page
 
 -- the rule's answer decides
 abbrev pub decide : Verdict → (ℕ → ℕ → Outcome) → Outcome

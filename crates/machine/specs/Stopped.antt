@@ -11,8 +11,8 @@ use lib.ListN.{length}
 use lib.Dec.{eqb}
 use Rattle.word.specs.Wrap.{Signed}
 use Rattle.program.specs.declared.Command.{Command}
-use Rattle.program.specs.declared.Command.the-variants.{Add, Sub}
-use Rattle.program.specs.Command.{opcode, push, output}
+use Rattle.program.specs.declared.Command.the-variants.{Add, Sub, Output, OutputTo}
+use Rattle.program.specs.Command.{opcode, push}
 use Rattle.machine.specs.Atom.{Atom, Entry, value, Line, endLine}
 use Rattle.machine.specs.Rule.{Policy, denied}
 use Rattle.machine.specs.State.{State, Stop, end, fuelSpent, pcOutside, valueMissing, frameMissing}
@@ -71,6 +71,14 @@ number m = m .make (m .top .number) (m .next .number)
 abbrev pub Overflows : Command → State → Type 0
 Overflows c s = (m : Made c s) × (Signed 64 (number m) → ⊥)
 
+-- the commands that write a line, and its page
+pub data Writes : Command → ℤ → Type 0 where
+  plain : Writes Output (pos 0)
+  to : {page : ℤ} → Writes (OutputTo page) page
+
+abbrev pub Prints : Command → Type 0
+Prints c = (page : ℤ) × Writes c page
+
 -- the state s, in which the run stopped, for each stop
 abbrev pub Stopped : Policy → ℕ → List Command → State → Stop → Type 0
 Stopped π room cs s end = AtTheEnd cs s × LastLine s (endLine (s .pc .label))
@@ -82,7 +90,7 @@ Stopped π room cs s addressOutside = Here cs s (λ c. request room c s ≡ halt
 Stopped π room cs s denial = Here cs s (λ c. Denied π c s (request room c s))
 Stopped π room cs s overflow = Here cs s (λ c. Overflows c s)
 Stopped π room cs s stackFull = Here cs s (λ c. (opcode c ≡ push) × (stackLimit ≤ length (s .stack)))
-Stopped π room cs s outputFull = (Here cs s (λ c. opcode c ≡ output) ⊎ AtTheEnd cs s) × (room ≤ length (s .lines))
+Stopped π room cs s outputFull = (Here cs s Prints ⊎ AtTheEnd cs s) × (room ≤ length (s .lines))
 
 -- is it stop 6?
 abbrev pub denies : Stop → Bool

@@ -1,3 +1,4 @@
 pub mod Acting
 pub mod Following
 pub mod Next
+pub mod Printing

@@ -1,5 +1,8 @@
 -- The plain engine's ruler on words: the standard rules by a command's code, as the code of this crate chooses them.
-use Prim.Native.Nat.{ℕ}
+use Prim.Native.Nat.{ℕ, _<_}
+use mathlib.Core.Path.{_≡_}
+use mathlib.Core.Logic.{_⊎_}
+use lib.IntN.{ℤ, pos}
 use lib.Dec.{ltb, eqb}
 use Rattle.word.specs.Choose.{choose}
 use Rattle.word.specs.Wrap.{residue}
@@ -17,7 +20,7 @@ standardBy code p l1 l2 l3 =
     (choose (eqb code 6) (allowed p (join l1 l2)) (allowedIf (flows (join l1 p) l3) p (join (join l1 l2) p)))
     (choose (ltb code 10)
     (allowed (join l1 p) bottom)
-    (choose (eqb code 10) (allowed (join l1 p) p) (allowed l1 bottom))))
+    (choose (eqb code 10) (allowed (join l1 p) p) (choose (eqb code 11) (allowed l1 bottom) (allowed p (join l1 p))))))
 
 -- it keeps nothing
 abbrev pub standardRuler : WordRuler Unit
@@ -26,3 +29,7 @@ standardRuler u a =
       verdict = standardBy (residue 64 (a .code)) (a .pc) (a .inputs .input1 .0) (a .inputs .input2 .0) (a .inputs .input3 .0);
       ruler = u;
     }
+
+-- the codes that write a line, and on which page: Output on page 0, OutputTo, for which any code above 11 is taken, on that of its operand
+abbrev pub PrintsTo : ℕ → ℤ → ℤ → Type 0
+PrintsTo code operand page = ((code ≡ 4) × (page ≡ pos 0)) ⊎ ((11 < code) × (page ≡ operand))

@@ -11,7 +11,7 @@ ghost use lib.IntN.{ℤ};
 ghost use Rattle.word.specs.Wrap.{residue};
 ghost use Rattle.step.specs.Lent.{Cells, cells, lent, after};
 ghost use Rattle.engine.specs.Act.{actOf};
-ghost use Rattle.plain.specs.Ruler.{standardRuler};
+ghost use Rattle.plain.specs.Ruler.{standardRuler, PrintsTo};
 
 // Add and Sub: P; L1+L2.
 fn arith(code: u64, m: Machine, stack: &mut [i64]) -> Stepped
@@ -38,16 +38,16 @@ fn pop(m: Machine, stack: &[i64]) -> Stepped
     effect::pop(m.label, m)
 }
 
-// Output: P; L1+P labels the line.
-fn output(m: Machine, stack: &[i64]) -> Stepped
-    ensures { λ r. ⌜ ((word operand : ℤ) (c : Cells) → residue 64 word ≡ 4 → after r (lent (now (stack .entry)) c)
+// Output and OutputTo: P; L1+P labels the line on a page.
+fn output(page: i64, m: Machine, stack: &[i64]) -> Stepped
+    ensures { λ r. ⌜ ((word operand : ℤ) (c : Cells) → PrintsTo (residue 64 word) operand page → after r (lent (now (stack .entry)) c)
         ≡ actOf standardRuler word operand m tt (lent (now (stack .entry)) c) .after) ⌝ }
 {
     let found = find::one_value(m, stack);
     if found.stop != CARRIED {
         return stack::stopped(m, found.stop);
     }
-    effect::output(m.label, found.input1.join(m.label), m, stack)
+    effect::output(m.label, found.input1.join(m.label), m, page, stack)
 }
 
 // Push: P; the empty label.
@@ -124,9 +124,9 @@ fn call(m: Machine, stack: &mut [i64]) -> Stepped
     effect::call(found.input1.join(m.label), m.label, m, stack)
 }
 
-// Ret: L1, the frame's. Any code above 10 is taken for it.
+// Ret: L1, the frame's.
 fn ret(m: Machine, stack: &[i64]) -> Stepped
-    ensures { λ r. ⌜ ((word operand : ℤ) (c : Cells) → 10 < residue 64 word → after r (lent (now (stack .entry)) c)
+    ensures { λ r. ⌜ ((word operand : ℤ) (c : Cells) → residue 64 word ≡ 11 → after r (lent (now (stack .entry)) c)
         ≡ actOf standardRuler word operand m tt (lent (now (stack .entry)) c) .after) ⌝ }
 {
     let found = find::one_frame(m, stack);
@@ -157,7 +157,7 @@ pub(crate) fn act(
             if code == 3 {
                 return pop(m, stack);
             }
-            return output(m, stack);
+            return output(0, m, stack);
         }
         return push(operand, m, stack);
     }
@@ -167,14 +167,17 @@ pub(crate) fn act(
         }
         return store(m, stack, values, labels);
     }
-    if code < 10 {
-        if code == 8 {
-            return jump(m, stack);
+    if 9 < code {
+        if code < 12 {
+            if code == 10 {
+                return call(m, stack);
+            }
+            return ret(m, stack);
         }
-        return bnz(operand, m, stack);
+        return output(operand, m, stack);
     }
-    if code == 10 {
-        return call(m, stack);
+    if code == 8 {
+        return jump(m, stack);
     }
-    ret(m, stack)
+    bnz(operand, m, stack)
 }

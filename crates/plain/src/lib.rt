@@ -12,7 +12,7 @@ ghost use Rattle.engine.specs.Memory.{output, memory};
 ghost use Rattle.engine.specs.Ended.{ended};
 ghost use Rattle.plain.specs.Plain.{plain};
 
-// Checks everything, and then runs the sheet on the lent cells to one named stop. A refusal, of 1 to 5, 8 at 1 or 2, or 9, leaves every
+// Checks everything, and then runs the sheet on the lent cells to one named stop. A refusal, of 1 to 3, 12, 4, 5, 8 at 1 or 2, or 9, leaves every
 // lent run as it came.
 pub fn execute(
     sheet: &[u8],
@@ -23,14 +23,15 @@ pub fn execute(
     numbers: &mut [i64],
     line_labels: &mut [i64],
     kinds: &mut [i64],
+    pages: &mut [i64],
     fuel: u64,
 ) -> Answer
     ensures { λ r. ⌜ ended r tt
         (memory (now (program .exit)) (lent (now (stack .exit)) (cells (now (values .exit)) (now (labels .exit))))
-        (output (now (numbers .exit)) (now («line_labels» .exit)) (now (kinds .exit))))
+        (output (now (numbers .exit)) (now («line_labels» .exit)) (now (kinds .exit)) (now (pages .exit))))
         ≡ plain (now (sheet .entry))
         (memory (now (program .entry)) (lent (now (stack .entry)) (cells (now (values .entry)) (now (labels .entry))))
-        (output (now (numbers .entry)) (now («line_labels» .entry)) (now (kinds .entry))))
+        (output (now (numbers .entry)) (now («line_labels» .entry)) (now (kinds .entry)) (now (pages .entry))))
         fuel ⌝ }
 {
     let given = Given {
@@ -44,7 +45,7 @@ pub fn execute(
         Checked::Refused(r) => Answer::Refused(r),
         Checked::Accepted(count) => {
             program::write(sheet, program);
-            let room = engine::room(numbers.len(), line_labels.len(), kinds.len());
+            let room = engine::room(numbers.len(), line_labels.len(), kinds.len(), pages.len());
             let ran = run::go(
                 count,
                 room,
@@ -56,6 +57,7 @@ pub fn execute(
                 numbers,
                 line_labels,
                 kinds,
+                pages,
             );
             Answer::Stopped(ran)
         }

@@ -84,15 +84,16 @@ pub(crate) fn go(
     numbers: &mut [i64],
     line_labels: &mut [i64],
     kinds: &mut [i64],
+    pages: &mut [i64],
 ) -> Ran
     requires { ⌜ (count ≤ 4096) × (2 * count ≤ length (now program)) × (768 ≤ length (now stack))
         × (length (now values) ≤ 1024) × (length (now values) ≡ length (now labels)) ⌝ }
     ensures { λ r. ⌜ done r tt
         (lent (now (stack .exit)) (cells (now (values .exit)) (now (labels .exit))))
-        (output (now (numbers .exit)) (now («line_labels» .exit)) (now (kinds .exit)))
+        (output (now (numbers .exit)) (now («line_labels» .exit)) (now (kinds .exit)) (now (pages .exit)))
         ≡ loopOf standardRuler count room (now (program .entry)) fuel 0 started tt
         (lent (now (stack .entry)) (cells (now (values .entry)) (now (labels .entry))))
-        (output (now (numbers .entry)) (now («line_labels» .entry)) (now (kinds .entry))) ⌝ }
+        (output (now (numbers .entry)) (now («line_labels» .entry)) (now (kinds .entry)) (now (pages .entry))) ⌝ }
 {
     let mut m = Machine::start();
     let mut left: u64 = fuel;
@@ -111,7 +112,7 @@ pub(crate) fn go(
                 left = n.left;
                 let before = n.machine;
                 let r = act(n.word, n.operand, before, stack, values, labels);
-                let w = engine::emit(before, r, room, numbers, line_labels, kinds);
+                let w = engine::emit(before, r, room, numbers, line_labels, kinds, pages);
                 let machine = w.machine;
                 let stop = w.stop;
                 if stop != CARRIED {
@@ -125,7 +126,7 @@ pub(crate) fn go(
                 left -= 1;
             }
             Index::Outside => {
-                let w = engine::end_or(m, count, 2, room, numbers, line_labels, kinds);
+                let w = engine::end_or(m, count, 2, room, numbers, line_labels, kinds, pages);
                 let machine = w.machine;
                 return Ran {
                     machine,
@@ -135,7 +136,7 @@ pub(crate) fn go(
             }
         }
     }
-    let w = engine::end_or(m, count, 1, room, numbers, line_labels, kinds);
+    let w = engine::end_or(m, count, 1, room, numbers, line_labels, kinds, pages);
     let machine = w.machine;
     Ran {
         machine,

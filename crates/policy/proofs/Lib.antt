@@ -1,3 +1,4 @@
+pub mod Ruled
 pub mod Tokens
 pub mod Writing
 pub mod Writable

@@ -9,7 +9,7 @@ use native.Mathlib.Omega.{arith}
 use lib.Dec.{leb, ltb, eqb}
 use lib.ListN.{length, getElem?, length-append}
 use borrow.Author.Tests.{leb-true}
-use Rattle.program.specs.Command.{Opcode, opcodes, supplies, hasResult}
+use Rattle.program.specs.Command.{Opcode, ruled, supplies, hasResult}
 use Rattle.policy.specs.declared.Token.{Token}
 use Rattle.policy.specs.declared.Token.the-variants.{Empty, Place, Input1, Input2, Input3, Join, Flows, True, And, Or, Nothing}
 use Rattle.policy.specs.Expression.{LabelExpr, empty, place, input1, input2, input3, join, Condition, flows, both, either, Rule}
@@ -211,10 +211,10 @@ module _ (bytes : List ℕ) where
     abbrev n : ℕ
     n = supplies o
 
-    ruled : (c : Condition) (at2 : ℕ) (q : LabelExpr) (at3 : ℕ) (r : LabelExpr) (end : ℕ) → ConditionFound n bytes depthLimit at c at2
+    rule-put : (c : Condition) (at2 : ℕ) (q : LabelExpr) (at3 : ℕ) (r : LabelExpr) (end : ℕ) → ConditionFound n bytes depthLimit at c at2
         → LabelFound n bytes depthLimit at2 q at3 → ResultFound n bytes (hasResult o) at3 r end
         → RuleFound o at (record { allowed = c; pc = q; result = r }) end
-    ruled c at2 q at3 r end p s t =
+    rule-put c at2 q at3 r end p s t =
         record {
           fits = record { depth = p .deep; supplied = p .supplied; pc = (s .deep, s .supplied); result = t .fits };
           size = let x = p .size in let y = s .size in let z = t .size in simp length-append (omega arith);
@@ -239,7 +239,7 @@ module _ (bytes : List ℕ) where
         then-good (LabelFound n bytes depthLimit at2) (RuleFound o at) (readLabel depthLimit n bytes at2) (middle c)
         (label-found n bytes depthLimit at2) (λ q at3 s.
         then-good (ResultFound n bytes (hasResult o) at3) (RuleFound o at) (resultIf (hasResult o) n bytes at3) (last c q)
-        (result-found n bytes (hasResult o) at3) (λ r end t. ruled c at2 q at3 r end p s t)))
+        (result-found n bytes (hasResult o) at3) (λ r end t. rule-put c at2 q at3 r end p s t)))
 
   record RulesFound (os : List Opcode) (at : ℕ) (t : Table) (next : ℕ) : Type 0 where
     fits : RulesWritable os t
@@ -276,7 +276,7 @@ pub read-writable : (bytes : List ℕ) (t : Table) → readTable bytes ≡ table
 unfolding readTable
 read-writable bytes t e = limited (leb (length bytes) tableLimit) refl e
   where
-    left : (r : Read Table) → Good (RulesFound bytes opcodes 0) r → length bytes ≤ tableLimit → whole (length bytes) r ≡ table t
+    left : (r : Read Table) → Good (RulesFound bytes ruled 0) r → length bytes ≤ tableLimit → whole (length bytes) r ≡ table t
         → TableWritable t
     left (fault at) g h e = never (cc)
     left (found u end) g h e = go (ltb end (length bytes)) e
@@ -291,5 +291,5 @@ read-writable bytes t e = limited (leb (length bytes) tableLimit) refl e
             rw k at writable
 
     limited : (b : Bool) → leb (length bytes) tableLimit ≡ b → tableIf b bytes ≡ table t → TableWritable t
-    limited true l e = left (readRules opcodes bytes 0) (rules-found bytes opcodes 0) (leb-true (length bytes) tableLimit l) e
+    limited true l e = left (readRules ruled bytes 0) (rules-found bytes ruled 0) (leb-true (length bytes) tableLimit l) e
     limited false l e = never (cc)

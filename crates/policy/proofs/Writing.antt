@@ -7,7 +7,7 @@ use Prim.Native.Nat.{ℕ, zero, suc, _+_, _≤_}
 use native.Mathlib.Omega.{arith}
 use lib.ListN.{length, drop, length-append}
 use borrow.Author.Tests.{le-leb, le-ltb}
-use Rattle.program.specs.Command.{Opcode, opcodes, supplies, hasResult}
+use Rattle.program.specs.Command.{Opcode, ruled, supplies, hasResult}
 use Rattle.policy.specs.Expression.{LabelExpr, empty, place, input1, input2, input3, join, Condition, flows, always, both}
 use Rattle.policy.specs.Expression.{either, Rule, Table}
 use Rattle.policy.specs.Token.{tokenOf}
@@ -124,6 +124,6 @@ readTable-writeTable t w =
     let s = writeTable t in
     rw (
       le-leb (length s) tableLimit (w .size),
-      rules-written s opcodes t (w .rules) 0 [] (sym (append-nil s)),
+      rules-written s ruled t (w .rules) 0 [] (sym (append-nil s)),
       le-ltb (0 + length s) (length s) (omega arith),
     )

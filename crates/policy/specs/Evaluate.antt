@@ -1,10 +1,10 @@
 -- Reading a rule table directly: what it says for a key.
-use Prim.Native.Nat.{ℕ, _-_}
+use Prim.Native.Nat.{ℕ}
 use mathlib.Core.Bool.{Bool, true, _&&_, _||_}
 use mathlib.Core.Option.{Option, none, some}
 use lib.ListN.{getElem?}
 use Rattle.label.specs.Label as Label
-use Rattle.program.specs.Command.{Opcode, codeOf}
+use Rattle.program.specs.Command.{Opcode, ruleNumber}
 use Rattle.machine.specs.Rule.{Key, labelOf, Verdict, denied, allowedIf, Policy}
 use Rattle.policy.specs.Expression.{LabelExpr, empty, place, input1, input2, input3, join, Condition, flows, always, both}
 use Rattle.policy.specs.Expression.{either, Rule, Table}
@@ -24,9 +24,9 @@ evalCondition k always = true
 evalCondition k (both a b) = evalCondition k a && evalCondition k b
 evalCondition k (either a b) = evalCondition k a || evalCondition k b
 
--- the rule of a command
+-- the rule that a command is under
 abbrev pub ruleOf : Table → Opcode → Option Rule
-ruleOf t o = getElem? t (codeOf o - 1)
+ruleOf t o = getElem? t (ruleNumber o)
 
 -- what it says: a command without a rule is not allowed
 abbrev pub evalRule : Option Rule → Key → Verdict

@@ -7,7 +7,7 @@ use lib.Dec.{leb, ltb, eqb}
 use lib.ListN.{length, getElem?}
 use Rattle.program.specs.declared.Refusal.{Refusal}
 use Rattle.program.specs.Decode.{refusal}
-use Rattle.program.specs.Command.{Opcode, opcodes, supplies, hasResult}
+use Rattle.program.specs.Command.{Opcode, ruled, supplies, hasResult}
 use Rattle.policy.specs.declared.Token.{Token}
 use Rattle.policy.specs.declared.Token.the-variants.{Empty, Place, Input1, Input2, Input3, Join, Flows, True, And, Or, Nothing}
 use Rattle.policy.specs.Expression.{LabelExpr, empty, place, input1, input2, input3, join, Condition, flows, always, both}
@@ -101,9 +101,9 @@ abbrev pub prepend : Rule → Read Table → Read Table
 prepend r (fault at) = fault at
 prepend r (found rs end) = found (r ∷ rs) end
 
--- a table has a rule for each command
+-- a table has a rule for each command that has its own
 abbrev pub ruleCount : ℕ
-ruleCount = length opcodes
+ruleCount = length ruled
 
 -- the rules of commands in order
 unfoldable pub readRules : List Opcode → List ℕ → (at : ℕ) → Read Table
@@ -128,7 +128,7 @@ abbrev pub tableLimit : ℕ
 tableLimit = 512
 
 abbrev pub tableIf : Bool → List ℕ → ReadTable
-tableIf true bytes = whole (length bytes) (readRules opcodes bytes 0)
+tableIf true bytes = whole (length bytes) (readRules ruled bytes 0)
 tableIf false bytes = refused (refusal 6 tableLimit)
 
 unfoldable pub readTable : List ℕ → ReadTable

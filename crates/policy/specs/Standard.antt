@@ -3,7 +3,7 @@ use Prim.Native.Nat.{ℕ}
 use mathlib.Core.List.{List, [], _∷_, _++_}
 use Rattle.policy.specs.Expression.{LabelExpr, empty, place, input1, input2, input3, join, Condition, flows, always, Rule, Table}
 
--- for each command: allowed, place, result
+-- for each rule: allowed, place, result
 abbrev pub standardBytes : List ℕ
 standardBytes =
     -- Add, Sub: allowed; P; L1+L2

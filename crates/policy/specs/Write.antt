@@ -4,7 +4,7 @@ use mathlib.Core.Path.{_≡_}
 use mathlib.Core.Bool.{Bool, true, false}
 use mathlib.Core.List.{List, [], _∷_, _++_}
 use lib.ListN.{length}
-use Rattle.program.specs.Command.{Opcode, opcodes, supplies, hasResult}
+use Rattle.program.specs.Command.{Opcode, ruled, supplies, hasResult}
 use Rattle.policy.specs.Expression.{LabelExpr, empty, place, input1, input2, input3, join, Condition, flows, always, both}
 use Rattle.policy.specs.Expression.{either, Rule, Table}
 use Rattle.policy.specs.Read.{depthLimit, tableLimit}
@@ -82,5 +82,5 @@ RulesWritable (o ∷ os) [] = ⊥
 RulesWritable (o ∷ os) (r ∷ rs) = RuleWritable o r × RulesWritable os rs
 
 pub record TableWritable (t : Table) : Type 0 where
-  pub rules : RulesWritable opcodes t
+  pub rules : RulesWritable ruled t
   pub size : length (writeTable t) ≤ tableLimit

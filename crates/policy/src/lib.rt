@@ -6,7 +6,7 @@ pub mod standard_table;
 ghost use mathlib.Core.Path.{_≡_};
 ghost use Rattle.policy.specs.Token.{tokenOf};
 
-// How many rules a table has: one for each command.
+// How many rules a table has: one for each command but OutputTo, which is under Output's.
 pub const RULES: u64 = 11;
 
 // What a byte of a rule table stands for: an expression or an operator, or nothing.

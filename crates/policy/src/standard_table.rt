@@ -2,7 +2,7 @@
 ghost use mathlib.Core.Path.{_≡_};
 ghost use Rattle.policy.specs.Standard.{standardBytes};
 
-// Its bytes: for each command allowed, place, result.
+// Its bytes: for each rule allowed, place, result.
 pub fn bytes() -> [u8; 55]
     ensures { λ r. ⌜ r ≡ standardBytes ⌝ }
 {

@@ -1,20 +1,22 @@
 -- Checking a program command by command: what is left to check, after what was counted, gives the whole program's answer.
 -- Assumes nothing.
 use mathlib.Core.Path.{_≡_, refl, sym, ap, _∙_}
+use mathlib.Core.Bool.{true, false}
 use mathlib.Core.List.{List, []}
 use Prim.Native.Nat.{ℕ, zero, suc, _+_, _-_, _<_, _≤_}
 use native.Mathlib.Nat.{zero-add, add-zero}
 use native.Mathlib.Omega.{arith}
 use lib.IntN.{ℤ}
-use lib.ListN.{length, drop, drop-of-length-le}
+use lib.ListN.{length, drop, getD, drop-of-length-le}
 use lib.Seq.{drop-cons}
 use Rattle.program.specs.declared.Command.{Command}
 use Rattle.program.specs.declared.Checked.{Checked}
 use Rattle.program.specs.declared.Checked.the-variants as Checked
 use Rattle.program.specs.declared.Fetched.the-variants.{Is, Unknown, Cut}
 use Rattle.program.specs.Decode.{Decoded, refused, accepted, refusal, prepend, decodeFrom, decode, commandLimit, checkAnswer}
-use Rattle.program.specs.Fetch.{fetchOf}
-use Rattle.program.proofs.Fetching.{fetched-next, decode-unknown, decode-cut, decode-next}
+use Rattle.program.specs.Command.{opcodeOf}
+use Rattle.program.specs.Fetch.{permitsOf, fetchOf}
+use Rattle.program.proofs.Fetching.{Next, fetched-next, fetched-permits, decode-unknown, decode-cut, decode-next}
 
 -- the answer, after k commands were counted
 abbrev pub counted : ℕ → Decoded → Checked
@@ -82,16 +84,26 @@ module _ (s : List ℕ) (at count : ℕ) (i : Invariant s at count) where
     pub invariant-cut : fetchOf s at ≡ Cut → Checked.Refused (refusal 3 at) ≡ checkAnswer (decode s)
     invariant-cut e = ap (counted count) (sym (decode-cut s at h left e)) ∙ answer-suc
 
-    pub invariant-forward : (z : ℤ) (next : ℕ) → fetchOf s at ≡ Is z next → at < next
-    invariant-forward z next e = fetched-next s at h z next e .forward
+    module _ (z : ℤ) (next : ℕ) (e : fetchOf s at ≡ Is z next) where
+      n : Next s at z next
+      n = fetched-next s at h z next e
 
-    pub invariant-next : (z : ℤ) (next : ℕ) → fetchOf s at ≡ Is z next → Invariant s next (count + 1)
-    unfolding left
-    invariant-next z next e =
-        let n = fetched-next s at h z next e in
-        record {
-          few = let k = i .few in omega arith;
-          within = n .within;
-          answer = sym (counted-prepend count _ (remaining s next (count + 1))) ∙ ap (counted count) (sym (decode-next s at h left n))
-              ∙ answer-suc;
-        }
+      pub invariant-forward : at < next
+      invariant-forward = n .forward
+
+      -- what its code says of its operand
+      pub invariant-outside : permitsOf (opcodeOf (getD s at 0)) z ≡ false → Checked.Refused (refusal 12 at) ≡ checkAnswer (decode s)
+      invariant-outside t =
+          ap (counted count) (sym (decode-next s at h left n false (sym (fetched-permits s at h n) ∙ t))) ∙ answer-suc
+
+      pub invariant-next : permitsOf (opcodeOf (getD s at 0)) z ≡ true → Invariant s next (count + 1)
+      unfolding left
+      invariant-next t =
+          record {
+            few = let k = i .few in omega arith;
+            within = n .within;
+            answer =
+                sym (counted-prepend count _ (remaining s next (count + 1)))
+                ∙ ap (counted count) (sym (decode-next s at h left n true (sym (fetched-permits s at h n) ∙ t)))
+                ∙ answer-suc;
+          }

@@ -15,9 +15,11 @@ use borrow.Author.Tests.{ne-eqb}
 use Rattle.word.specs.Wrap.{residue}
 use Rattle.word.proofs.Bool.{and-left, and-right}
 use Rattle.program.specs.declared.Command.{Command}
-use Rattle.program.specs.declared.Command.the-variants.{Add, Sub, Pop, Output, Push, Load, Store, Jump, Bnz, Call, Ret}
-use Rattle.program.specs.Command.{Opcode, add, sub, pop, output, push, load, store, jump, bnz, call, ret, opcodes, opcodeOf}
-use Rattle.program.specs.Command.{codeOf, operandWidth, opcode, operand, command}
+use Rattle.program.specs.declared.Command.the-variants.{Add, Sub, Pop, Output, Push, Load, Store, Jump, Bnz, Call, Ret, OutputTo}
+use Rattle.program.specs.declared.Operand.{Operand}
+use Rattle.program.specs.declared.Operand.the-variants.{Signed, Page}
+use Rattle.program.specs.Command.{Opcode, add, sub, pop, output, push, load, store, jump, bnz, call, ret, outputTo, opcodes}
+use Rattle.program.specs.Command.{opcodeOf, codeOf, operandOf, operandWidth, opcode, operand, command}
 
 -- an opcode is found under its code
 pub opcodeOf-codeOf : (o : Opcode) → opcodeOf (codeOf o) ≡ some o
@@ -33,8 +35,9 @@ opcodeOf-codeOf jump = refl
 opcodeOf-codeOf bnz = refl
 opcodeOf-codeOf call = refl
 opcodeOf-codeOf ret = refl
+opcodeOf-codeOf outputTo = refl
 
--- its rule's index in a table
+-- its index among the opcodes
 pub opcodes-code : (o : Opcode) → getElem? opcodes (codeOf o - 1) ≡ some o
 unfolding opcodeOf
 opcodes-code o = by (codeOf o) (opcodeOf-codeOf o)
@@ -71,14 +74,13 @@ pub code-residue : (o : Opcode) → residue 64 (pos (codeOf o)) ≡ codeOf o
 unfolding residue
 code-residue o = mod-eq-of-lt (omega (arith, code-most o))
 
--- an operand has eight bytes, two or none
-abbrev width-known : ℕ → Bool
-width-known w = eqb w 8 || (eqb w 2 || eqb w 0)
+-- a signed operand has eight bytes, two or none
+abbrev width-known : Operand → Bool
+width-known (Signed w) = eqb w 8 || (eqb w 2 || eqb w 0)
+width-known Page = true
 
-pub width-none : (o : Opcode) → (operandWidth o ≡ 8 → ⊥) → (operandWidth o ≡ 2 → ⊥) → operandWidth o ≡ 0
-width-none o f g =
-    let w = operandWidth o in
-    eqb→eq w 0 (rw (ne-eqb w 8 f, ne-eqb w 2 g) at (opcode-all (λ o. width-known (operandWidth o)) tt o))
+pub width-none : (o : Opcode) (w : ℕ) → operandOf o ≡ Signed w → (w ≡ 8 → ⊥) → (w ≡ 2 → ⊥) → w ≡ 0
+width-none o w e f g = eqb→eq w 0 (rw (e, ne-eqb w 8 f, ne-eqb w 2 g) at (opcode-all (λ o. width-known (operandOf o)) tt o))
 
 -- ════════════════════════════════════════════════════════════════════════════════════════════
 -- What a code stands for
@@ -133,6 +135,7 @@ command-whole Jump = refl
 command-whole (Bnz z) = refl
 command-whole Call = refl
 command-whole Ret = refl
+command-whole (OutputTo z) = refl
 
 -- an opcode and an operand make a command that has both, if the operand is 0 where there are no bytes for it
 abbrev Made : Opcode → ℤ → Type 0
@@ -150,6 +153,7 @@ made jump z = (refl, λ h. sym (h refl))
 made bnz z = (refl, λ h. refl)
 made call z = (refl, λ h. sym (h refl))
 made ret z = (refl, λ h. sym (h refl))
+made outputTo z = (refl, λ h. refl)
 
 pub opcode-command : (o : Opcode) (z : ℤ) → opcode (command o z) ≡ o
 opcode-command o z = made o z .0

@@ -12,15 +12,17 @@ use lib.Dec.{leb}
 use lib.ListN.{length, drop, length-drop}
 use borrow.Author.Tests.{leb-true, le-leb}
 use Rattle.word.specs.declared.field.Field.the-variants.{Number}
-use Rattle.word.specs.Field.{signedAt, bitsAt}
+use Rattle.word.specs.Field.{unsignedAt, signedAt, bitsAt}
 use Rattle.word.specs.Field as Field
 use Rattle.word.specs.Wrap.{signed}
 use Rattle.word.specs.Digits.{valueOf}
 use Rattle.word.proofs.Laws.Test.{leb-shift}
 use Rattle.program.specs.declared.Command.{Command}
-use Rattle.program.specs.Command.{opcodeOf}
-use Rattle.program.specs.Decode.{First, unknown, cut, whole, firstOpcode, Decoded, refused, accepted, prepend, decodeFirst}
-use Rattle.program.specs.Decode.{decodeFrom}
+use Rattle.program.specs.declared.Operand.{Operand}
+use Rattle.program.specs.declared.Operand.the-variants as Operand
+use Rattle.program.specs.Command.{opcodeOf, width}
+use Rattle.program.specs.Decode.{First, unknown, cut, whole, operandAt, firstOpcode, Decoded, refused, accepted, prepend}
+use Rattle.program.specs.Decode.{permits, decodeIf, decodeFirst, decodeFrom}
 
 -- the commands of an accepted program, none of a refused one
 abbrev pub commandsOf : Decoded → List Command
@@ -35,7 +37,11 @@ first-length : (x : First) (at n : ℕ) (rest : ℕ → Decoded) → ((w : ℕ) 
     → length (commandsOf (decodeFirst x at rest)) ≤ suc n
 first-length unknown at n rest h = omega arith
 first-length cut at n rest h = omega arith
-first-length (whole c w) at n rest h = prepend-length c (rest w) n (h w)
+first-length (whole c w) at n rest h = go (permits c)
+  where
+    go : (b : Bool) → length (commandsOf (decodeIf b c at (rest w))) ≤ suc n
+    go true = prepend-length c (rest w) n (h w)
+    go false = omega arith
 
 -- at most as many commands as may follow
 pub decode-length : (left at : ℕ) (s : List ℕ) → length (commandsOf (decodeFrom left at s)) ≤ left
@@ -47,29 +53,35 @@ decode-length (suc left) at (b ∷ s) =
     first-length (firstOpcode (opcodeOf b) s) at left (λ w. decodeFrom left (at + suc w) (drop w s))
     (λ w. decode-length left (at + suc w) (drop w s))
 
--- a field in what is left from a position on is the field at that position
-pub signedAt-drop : (k : ℕ) (s : List ℕ) (p : ℕ) → p ≤ length s → signedAt k (drop p s) 0 ≡ signedAt k s p
-unfolding signedAt bitsAt
-signedAt-drop k s p h = rw (length-drop p s, leb-shift (0 + k) p (length s) h, zero-add k, add-comm k p)
+-- an operand in what is left from a position on is the operand at that position
+pub operandAt-drop : (x : Operand) (s : List ℕ) (p : ℕ) → p ≤ length s → operandAt x (drop p s) 0 ≡ operandAt x s p
+unfolding signedAt unsignedAt bitsAt
+operandAt-drop (Operand.Signed k) s p h = rw (length-drop p s, leb-shift (0 + k) p (length s) h, zero-add k, add-comm k p)
+operandAt-drop Operand.Page s p h = rw (length-drop p s, leb-shift (0 + 1) p (length s) h, zero-add 1, add-comm 1 p)
 
--- the field of no bytes is 0
-pub signedAt-none : (s : List ℕ) (p : ℕ) (z : ℤ) → signedAt 0 s p ≡ Number z → z ≡ pos 0
+-- that of no bytes is 0
+pub operandAt-none : (x : Operand) (s : List ℕ) (p : ℕ) (z : ℤ) → operandAt x s p ≡ Number z → width x ≡ 0 → z ≡ pos 0
 unfolding signedAt bitsAt signed valueOf
-signedAt-none s p z e = none-whole (leb (p + 0) (length s)) e
+operandAt-none (Operand.Signed k) s p z e w = none-whole (leb (p + 0) (length s)) (rw w at e)
   where
     none-whole : (b : Bool) → Field.whole b (pos 0) ≡ Number z → z ≡ pos 0
     none-whole true e = cc
     none-whole false e = absurd (let z : _≡_ {A = ℕ} 0 1 = cc in omega arith)
+operandAt-none Operand.Page s p z e w = absurd (omega arith)
 
 pub signedAt-empty : (s : List ℕ) (p : ℕ) → p ≤ length s → signedAt 0 s p ≡ Number (pos 0)
 unfolding signedAt bitsAt signed valueOf
 signedAt-empty s p h = rw (le-leb (p + 0) (length s) (omega arith))
 
--- a whole field ends within the bytes
-pub signedAt-whole : (k : ℕ) (s : List ℕ) (p : ℕ) (z : ℤ) → signedAt k s p ≡ Number z → p + k ≤ length s
-unfolding signedAt
-signedAt-whole k s p z e = go (leb (p + k) (length s)) refl e
+-- a whole one ends within the bytes
+pub operandAt-whole : (x : Operand) (s : List ℕ) (p : ℕ) (z : ℤ) → operandAt x s p ≡ Number z → p + width x ≤ length s
+unfolding signedAt unsignedAt
+operandAt-whole x s p z e = by x e
   where
-    go : (b : Bool) → leb (p + k) (length s) ≡ b → Field.whole b (signed (8 * k) (bitsAt k s p)) ≡ Number z → p + k ≤ length s
-    go true t e = leb-true (p + k) (length s) t
-    go false t e = absurd (let z : _≡_ {A = ℕ} 0 1 = cc in omega arith)
+    go : (k : ℕ) (n : ℤ) (b : Bool) → leb (p + k) (length s) ≡ b → Field.whole b n ≡ Number z → p + k ≤ length s
+    go k n true t e = leb-true (p + k) (length s) t
+    go k n false t e = absurd (let z : _≡_ {A = ℕ} 0 1 = cc in omega arith)
+
+    by : (x : Operand) → operandAt x s p ≡ Number z → p + width x ≤ length s
+    by (Operand.Signed k) e = go k (signed (8 * k) (bitsAt k s p)) (leb (p + k) (length s)) refl e
+    by Operand.Page e = go 1 (pos (bitsAt 1 s p)) (leb (p + 1) (length s)) refl e

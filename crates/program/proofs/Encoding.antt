@@ -4,16 +4,19 @@
 use mathlib.Core.Path.{_≡_, refl, sym, ap, _∙_}
 use mathlib.Core.List.{List, [], _∷_, _++_}
 use mathlib.Core.Option.{Option, none, some}
-use Prim.Native.Nat.{ℕ, zero, suc, _+_, _*_, _<_, _≤_}
+use Prim.Native.Nat.{ℕ, zero, suc, _+_, _*_, _^_, _<_, _≤_}
+use native.Mathlib.Nat.{mod-eq-of-lt}
 use native.Mathlib.Omega.{arith}
-use lib.IntN.{ℤ}
+use mathlib.Core.Bool.{Bool, true, false}
+use lib.IntN.{ℤ, pos, negsuc}
+use borrow.Author.Tests.{ltb-true}
 use lib.ListN.{length, take, drop, getD, set, take-append-drop}
 use lib.Seq.{drop-at, getD-drop, getD-take, length-take-le}
 use Rattle.word.specs.declared.field.Field.{Field}
 use Rattle.word.specs.declared.field.Field.the-variants.{Number, Cut}
-use Rattle.word.specs.Wrap.{Signed, signed}
+use Rattle.word.specs.Wrap.{Signed, signed, residue}
 use Rattle.word.specs.Digits.{digitsOf}
-use Rattle.word.specs.Field.{Bytes, signedAt, bitsAt, bytesOf}
+use Rattle.word.specs.Field.{Bytes, signedAt, unsignedAt, bitsAt, bytesOf}
 use Rattle.word.specs.Text.{putAnswer, putOut}
 use Rattle.word.specs.declared.text.Put.the-variants.{Next}
 use Rattle.word.proofs.Lay.{laidAt-nil, laidAt-cons}
@@ -22,21 +25,37 @@ use Rattle.word.proofs.Laws.Digits.{Below, value-digits}
 use Rattle.word.proofs.Laws.Wrap.{signed-range, residue-signed}
 use Rattle.word.proofs.Laws.Field as Field
 use Rattle.program.specs.declared.Command.{Command}
-use Rattle.program.specs.Command.{Opcode, opcodeOf, codeOf, operandWidth, opcode, operand, command}
-use Rattle.program.specs.Decode.{First, unknown, cut, whole, firstOperand, firstOpcode, Decoded, refused, accepted, prepend}
-use Rattle.program.specs.Decode.{decodeFirst, decodeFrom, decode, commandLimit}
-use Rattle.program.specs.Encode.{FitsBytes, Writable, AllWritable, encodeCommand, encode}
+use Rattle.program.specs.declared.Operand.{Operand}
+use Rattle.program.specs.declared.Operand.the-variants as Operand
+use Rattle.program.specs.Command.{Opcode, opcodeOf, codeOf, operandOf, width, operandWidth, isPage, opcode, operand, command}
+use Rattle.program.specs.Decode.{First, unknown, cut, whole, operandAt, firstOperand, firstOpcode, Decoded, refused, accepted}
+use Rattle.program.specs.Decode.{prepend, permitted, permits, decodeIf, decodeFirst, decodeFrom, decode, commandLimit}
+use Rattle.program.specs.Encode.{FitsBytes, Fits, Writable, AllWritable, encodeCommand, encode}
 use Rattle.program.proofs.Codes.{opcodeOf-codeOf, codeOf-opcodeOf, code-most, command-whole, opcode-command, operand-command}
-use Rattle.program.proofs.Decode.{commandsOf, decode-length, signedAt-none, signedAt-empty, signedAt-whole}
+use Rattle.program.proofs.Decode.{commandsOf, decode-length, operandAt-none, signedAt-empty, operandAt-whole}
+use Rattle.word.proofs.Bool.{never}
 
 -- ════════════════════════════════════════════════════════════════════════════════════════════
 -- From commands to bytes and back
 -- ════════════════════════════════════════════════════════════════════════════════════════════
 
 -- the bytes of a number that fits them hold it
-fits-bytes : (k : ℕ) (z : ℤ) → FitsBytes k z → (rest : List ℕ) → signedAt k (bytesOf k z ++ rest) 0 ≡ Number z
-fits-bytes zero z w rest = signedAt-empty _ 0 (omega arith) ∙ ap Number (sym w)
-fits-bytes (suc k) z w rest = Field.signedAt-bytes (suc k) [] rest z (omega arith) w
+signed-bytes : (k : ℕ) (z : ℤ) → FitsBytes k z → (rest : List ℕ) → signedAt k (bytesOf k z ++ rest) 0 ≡ Number z
+signed-bytes zero z w rest = signedAt-empty _ 0 (omega arith) ∙ ap Number (sym w)
+signed-bytes (suc k) z w rest = Field.signedAt-bytes (suc k) [] rest z (omega arith) w
+
+page-bytes : (z : ℤ) → isPage z ≡ true → (rest : List ℕ) → unsignedAt 1 (bytesOf 1 z ++ rest) 0 ≡ Number z
+page-bytes (pos n) w rest = Field.unsignedAt-bytes 1 [] rest n (omega (arith, ltb-true n 16 w))
+page-bytes (negsuc n) w rest = never (cc)
+
+fits-bytes : (x : Operand) (z : ℤ) → Fits x z → (rest : List ℕ) → operandAt x (bytesOf (width x) z ++ rest) 0 ≡ Number z
+fits-bytes (Operand.Signed k) z w rest = signed-bytes k z w rest
+fits-bytes Operand.Page z w rest = page-bytes z w rest
+
+-- and it is permitted
+pub fits-permitted : (x : Operand) (z : ℤ) → Fits x z → permitted x z ≡ true
+fits-permitted (Operand.Signed k) z w = refl
+fits-permitted Operand.Page z w = w
 
 decode-from : (cs : List Command) (left at : ℕ) → length cs ≤ left → AllWritable cs → decodeFrom left at (encode cs) ≡ accepted cs
 unfolding decodeFrom encode
@@ -48,10 +67,11 @@ decode-from (c ∷ cs) (suc left) at h w =
     let z = operand c in
     rw (
       opcodeOf-codeOf o,
-      fits-bytes (operandWidth o) z (w .0) (encode cs),
+      fits-bytes (operandOf o) z (w .0) (encode cs),
       drop-at (bytesOf (operandWidth o) z) (encode cs) (operandWidth o) (Field.bytes-length (operandWidth o) z),
       decode-from cs left (at + suc (operandWidth o)) (omega arith) (w .1),
       command-whole c,
+      fits-permitted (operandOf o) z (w .0),
     )
 
 -- writing at most 4,096 commands as bytes and reading the bytes gives the commands
@@ -79,19 +99,23 @@ put-bare at x z old h =
 -- From bytes to commands that can be written
 -- ════════════════════════════════════════════════════════════════════════════════════════════
 
-field-signed : (k : ℕ) (s : List ℕ) (z : ℤ) → 0 < k → Bytes s → signedAt k s 0 ≡ Number z → Signed (8 * k) z
-field-signed k s z p b e =
-    let h = signedAt-whole k s 0 z e in
-    let d : z ≡ signed (8 * k) (bitsAt k s 0) = cc (Field.signedAt-whole k s 0 h) in
-    rw d (signed-range (8 * k) (bitsAt k s 0) (omega arith) (Field.bitsAt-lt k s 0 h b))
+-- a field of k bytes within the bytes
+module _ (k : ℕ) (s : List ℕ) (z : ℤ) (b : Bytes s) (h : 0 + k ≤ length s) where
+  field-signed : 0 < k → signedAt k s 0 ≡ Number z → Signed (8 * k) z
+  field-signed p e =
+      let d : z ≡ signed (8 * k) (bitsAt k s 0) = cc (Field.signedAt-whole k s 0 h) in
+      rw d (signed-range (8 * k) (bitsAt k s 0) (omega arith) (Field.bitsAt-lt k s 0 h b))
 
-field-fits : (k : ℕ) (s : List ℕ) (z : ℤ) → Bytes s → signedAt k s 0 ≡ Number z → FitsBytes k z
-field-fits zero s z b e = signedAt-none s 0 z e
-field-fits (suc k) s z b e = field-signed (suc k) s z (omega arith) b e
+operand-fits : (x : Operand) (s : List ℕ) (z : ℤ) → Bytes s → operandAt x s 0 ≡ Number z → permitted x z ≡ true → Fits x z
+operand-fits (Operand.Signed zero) s z b e t = operandAt-none (Operand.Signed 0) s 0 z e refl
+operand-fits (Operand.Signed (suc k)) s z b e t =
+    field-signed (suc k) s z b (operandAt-whole (Operand.Signed (suc k)) s 0 z e) (omega arith) e
+operand-fits Operand.Page s z b e t = t
 
-operand-writable : (o : Opcode) (s : List ℕ) (z : ℤ) → Bytes s → signedAt (operandWidth o) s 0 ≡ Number z → Writable (command o z)
-operand-writable o s z b e =
-    rw (opcode-command o z, operand-command o z (λ w. signedAt-none s 0 z (rw w at e))) (field-fits (operandWidth o) s z b e)
+operand-writable : (o : Opcode) (s : List ℕ) (z : ℤ) → Bytes s → operandAt (operandOf o) s 0 ≡ Number z → permitted (operandOf o) z ≡ true
+    → Writable (command o z)
+operand-writable o s z b e t =
+    rw (opcode-command o z, operand-command o z (λ w. operandAt-none (operandOf o) s 0 z e w)) (operand-fits (operandOf o) s z b e t)
 
 prepend-writable : (c : Command) (d : Decoded) → Writable c → AllWritable (commandsOf d) → AllWritable (commandsOf (prepend c d))
 prepend-writable c (refused r) w h = tt
@@ -101,21 +125,26 @@ prepend-writable c (accepted cs) w h = (w, h)
 abbrev FirstWritable : First → Type 0
 FirstWritable unknown = Unit {0}
 FirstWritable cut = Unit {0}
-FirstWritable (whole c w) = Writable c
+FirstWritable (whole c w) = permits c ≡ true → Writable c
 
-operand-first : (o : Opcode) (s : List ℕ) → Bytes s → (f : Field) → signedAt (operandWidth o) s 0 ≡ f → FirstWritable (firstOperand o f)
+operand-first : (o : Opcode) (s : List ℕ) → Bytes s → (f : Field) → operandAt (operandOf o) s 0 ≡ f → FirstWritable (firstOperand o f)
 operand-first o s b Cut e = tt
-operand-first o s b (Number z) e = operand-writable o s z b e
+operand-first o s b (Number z) e =
+    λ t. operand-writable o s z b e (rw (opcode-command o z, operand-command o z (λ w. operandAt-none (operandOf o) s 0 z e w)) at t)
 
 opcode-first : (x : Option Opcode) (s : List ℕ) → Bytes s → FirstWritable (firstOpcode x s)
 opcode-first none s b = tt
-opcode-first (some o) s b = operand-first o s b (signedAt (operandWidth o) s 0) refl
+opcode-first (some o) s b = operand-first o s b (operandAt (operandOf o) s 0) refl
 
 first-writable : (x : First) (at : ℕ) (rest : ℕ → Decoded) → FirstWritable x → ((w : ℕ) → AllWritable (commandsOf (rest w)))
     → AllWritable (commandsOf (decodeFirst x at rest))
 first-writable unknown at rest f h = tt
 first-writable cut at rest f h = tt
-first-writable (whole c w) at rest f h = prepend-writable c (rest w) f (h w)
+first-writable (whole c w) at rest f h = go (permits c) refl
+  where
+    go : (b : Bool) → permits c ≡ b → AllWritable (commandsOf (decodeIf b c at (rest w)))
+    go true t = prepend-writable c (rest w) (f t) (h w)
+    go false t = tt
 
 bytes-tail : (b : ℕ) (s : List ℕ) → Bytes (b ∷ s) → Bytes s
 bytes-tail b s h i = h (suc i)
@@ -139,17 +168,33 @@ decode-writable (suc left) at (b ∷ s) h =
 -- ════════════════════════════════════════════════════════════════════════════════════════════
 
 -- the bytes of a field are those of the number that it holds
-field-bytes : (k : ℕ) (s : List ℕ) (z : ℤ) → Bytes s → signedAt k s 0 ≡ Number z → bytesOf k z ≡ take k s
-unfolding bytesOf bitsAt digitsOf
-field-bytes zero s z b e = refl
-field-bytes (suc k) s z b e =
-    let h = signedAt-whole (suc k) s 0 z e in
+module _ (k : ℕ) (s : List ℕ) (b : Bytes s) (h : 0 + k ≤ length s) where
+  -- of a number whose lowest bits are the field's
+  bits-bytes : (z : ℤ) → residue (8 * k) z ≡ bitsAt k s 0 → bytesOf k z ≡ take k s
+  unfolding bytesOf bitsAt
+  bits-bytes z e =
+      let ds = take k s in
+      let l : length ds ≡ k = length-take-le k s (omega arith) in
+      let below : Below 256 ds = λ i j. rw (getD-take k s i 0 (rw l at j)) (b i) in
+      rw e (rw l at (value-digits 256 ds below))
+
+residue-natural : (k n : ℕ) → n < 2 ^ k → residue k (pos n) ≡ n
+unfolding residue
+residue-natural k n h = mod-eq-of-lt h
+
+operand-bytes : (x : Operand) (s : List ℕ) (z : ℤ) → Bytes s → operandAt x s 0 ≡ Number z → bytesOf (width x) z ≡ take (width x) s
+unfolding bytesOf digitsOf
+operand-bytes (Operand.Signed zero) s z b e = refl
+operand-bytes (Operand.Signed (suc k)) s z b e =
+    let h = operandAt-whole (Operand.Signed (suc k)) s 0 z e in
     let n = bitsAt (suc k) s 0 in
-    let ds = take (suc k) s in
     let d : z ≡ signed (8 * suc k) n = cc (Field.signedAt-whole (suc k) s 0 h) in
-    let l : length ds ≡ suc k = length-take-le (suc k) s (omega arith) in
-    let below : Below 256 ds = λ i j. rw (getD-take (suc k) s i 0 (rw l at j)) (b i) in
-    rw (d, residue-signed (8 * suc k) n (omega arith) (Field.bitsAt-lt (suc k) s 0 h b)) (rw l at (value-digits 256 ds below))
+    bits-bytes (suc k) s b h z (rw d (residue-signed (8 * suc k) n (omega arith) (Field.bitsAt-lt (suc k) s 0 h b)))
+operand-bytes Operand.Page s z b e =
+    let h = operandAt-whole Operand.Page s 0 z e in
+    let n = bitsAt 1 s 0 in
+    let d : z ≡ pos n = cc (Field.unsignedAt-whole 1 s 0 h) in
+    bits-bytes 1 s b h z (rw d (residue-natural 8 n (Field.bitsAt-lt 1 s 0 h b)))
 
 -- writing the commands that were read gives these bytes
 abbrev Encodes : List ℕ → Decoded → Type 0
@@ -162,20 +207,31 @@ prepend-encodes c (refused r) s t e h = tt
 prepend-encodes c (accepted cs) s t e h = rw h e
 
 operand-encodes : (o : Opcode) (b : ℕ) (s : List ℕ) (at : ℕ) (rest : ℕ → Decoded) → codeOf o ≡ b → Bytes s
-    → ((w : ℕ) → Encodes (drop w s) (rest w)) → (f : Field) → signedAt (operandWidth o) s 0 ≡ f
+    → ((w : ℕ) → Encodes (drop w s) (rest w)) → (f : Field) → operandAt (operandOf o) s 0 ≡ f
     → Encodes (b ∷ s) (decodeFirst (firstOperand o f) at rest)
 operand-encodes o b s at rest d h g Cut e = tt
-operand-encodes o b s at rest d h g (Number z) e =
-    let w = operandWidth o in
-    prepend-encodes (command o z) (rest w) (b ∷ s) (drop w s)
-    (rw (opcode-command o z, operand-command o z (λ k. signedAt-none s 0 z (rw k at e)), d, field-bytes w s z h e, take-append-drop w s))
-    (g w)
+operand-encodes o b s at rest d h g (Number z) e = by (permits (command o z))
+  where
+    by : (t : Bool) → Encodes (b ∷ s) (decodeIf t (command o z) at (rest (operandWidth o)))
+    by true =
+        let w = operandWidth o in
+        let x = operandOf o in
+        prepend-encodes (command o z) (rest w) (b ∷ s) (drop w s)
+        (rw (
+          opcode-command o z,
+          operand-command o z (λ k. operandAt-none x s 0 z e k),
+          d,
+          operand-bytes x s z h e,
+          take-append-drop w s,
+        ))
+        (g w)
+    by false = tt
 
 opcode-encodes : (x : Option Opcode) (b : ℕ) (s : List ℕ) (at : ℕ) (rest : ℕ → Decoded) → opcodeOf b ≡ x → Bytes s
     → ((w : ℕ) → Encodes (drop w s) (rest w)) → Encodes (b ∷ s) (decodeFirst (firstOpcode x s) at rest)
 opcode-encodes none b s at rest e h g = tt
 opcode-encodes (some o) b s at rest e h g =
-    operand-encodes o b s at rest (codeOf-opcodeOf b o e) h g (signedAt (operandWidth o) s 0) refl
+    operand-encodes o b s at rest (codeOf-opcodeOf b o e) h g (operandAt (operandOf o) s 0) refl
 
 decode-encodes : (left at : ℕ) (s : List ℕ) → Bytes s → Encodes s (decodeFrom left at s)
 unfolding decodeFrom encode

@@ -2,6 +2,7 @@
 -- accepted program that fits is the program.
 -- Assumes nothing.
 use mathlib.Core.Path.{_≡_, refl, sym, ap, _∙_}
+use mathlib.Core.Bool.{Bool, true, false}
 use mathlib.Core.List.{List, [], _∷_}
 use Prim.Native.Nat.{ℕ, zero, suc, _+_, _-_, _*_, _/_, _<_, _≤_}
 use native.Mathlib.Numerals.{add-one, add-two}
@@ -14,8 +15,8 @@ use Rattle.program.specs.declared.Command.{Command}
 use Rattle.program.specs.declared.Refusal.{Refusal}
 use Rattle.program.specs.declared.Fetched.the-variants.{Is, Unknown, Cut}
 use Rattle.program.specs.Command.{opcodeOf}
-use Rattle.program.specs.Decode.{First, unknown, cut, whole, firstOpcode, Decoded, refused, accepted, refusal, prepend}
-use Rattle.program.specs.Decode.{decodeFirst, decodeFrom, decode, commandLimit}
+use Rattle.program.specs.Decode.{First, unknown, cut, whole, firstOpcode, Decoded, refused, accepted, refusal, prepend, permits}
+use Rattle.program.specs.Decode.{decodeIf, decodeFirst, decodeFrom, decode, commandLimit}
 use Rattle.program.specs.Fetch.{fetchOf}
 use Rattle.program.specs.Space.{programWords, takeFirst, readable, writeSpace}
 use Rattle.program.proofs.Codes.{opcode-command}
@@ -133,11 +134,16 @@ prepend-accepted : (c : Command) (d : Decoded) (cs : List Command) → prepend c
 prepend-accepted c (refused r) cs e = never (refused r) refl e
 prepend-accepted c (accepted rest) cs e = (rest, refl, cc)
 
+pub decoded-accepted : (b : Bool) (c : Command) (at : ℕ) (d : Decoded) (cs : List Command) → decodeIf b c at d ≡ accepted cs
+    → (rest : List Command) × (d ≡ accepted rest) × (cs ≡ c ∷ rest)
+decoded-accepted true c at d cs e = prepend-accepted c d cs e
+decoded-accepted false c at d cs e = never (refused (refusal 12 at)) refl e
+
 module _ (at : ℕ) (rest : ℕ → Decoded) (cs : List Command) where
   first-some : (x : First) → decodeFirst x at rest ≡ accepted cs → 1 ≤ length cs
   first-some unknown e = never (refused (refusal 2 at)) refl e
   first-some cut e = never (refused (refusal 3 at)) refl e
-  first-some (whole c w) e = let k = ap length (prepend-accepted c (rest w) cs e .2) in omega arith
+  first-some (whole c w) e = let k = ap length (decoded-accepted (permits c) c at (rest w) cs e .2) in omega arith
 
   first-readable : (x : First) (n : ℕ) (more : ℕ → List Command)
       → ((w : ℕ) (ds : List Command) → rest w ≡ accepted ds → length ds ≤ n → more w ≡ ds)
@@ -145,7 +151,7 @@ module _ (at : ℕ) (rest : ℕ → Decoded) (cs : List Command) where
   first-readable unknown n more f e h = never (refused (refusal 2 at)) refl e
   first-readable cut n more f e h = never (refused (refusal 3 at)) refl e
   first-readable (whole c w) n more f e h =
-      let (ds, d, k) = prepend-accepted c (rest w) cs e in
+      let (ds, d, k) = decoded-accepted (permits c) c at (rest w) cs e in
       let l = ap length k in
       ap (λ l. c ∷ l) (f w ds d (omega arith)) ∙ sym k
 

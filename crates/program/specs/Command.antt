@@ -1,23 +1,30 @@
--- The commands of document 01: its table of them, and how a command is put together from its opcode and its operand.
+-- The commands of document 01, and OutputTo of request U4: the table of them, and how a command is put together from its opcode and its operand.
 use Prim.Native.Nat.{ℕ, zero, suc, _*_}
 use Prim.Native.String.{String}
 use mathlib.Core.Bool.{Bool, true, false}
 use mathlib.Core.List.{List, [], _∷_}
 use mathlib.Core.Option.{Option, none}
-use lib.IntN.{ℤ, pos}
+use lib.IntN.{ℤ, pos, negsuc}
 use lib.ListN.{getElem?}
+use lib.Dec.{ltb}
 use Rattle.word.specs.Exact.{isSigned}
 use Rattle.word.specs.Text.{ascii}
 use Rattle.program.specs.declared.Command.{Command}
-use Rattle.program.specs.declared.Command.the-variants.{Add, Sub, Pop, Output, Push, Load, Store, Jump, Bnz, Call, Ret}
+use Rattle.program.specs.declared.Command.the-variants.{Add, Sub, Pop, Output, Push, Load, Store, Jump, Bnz, Call, Ret, OutputTo}
+use Rattle.program.specs.declared.Operand.{Operand}
+use Rattle.program.specs.declared.Operand.the-variants.{Signed, Page}
 
 -- a command without its operand
 pub data Opcode : Type 0 where
-  add sub pop output push load store jump bnz call ret : Opcode
+  add sub pop output push load store jump bnz call ret outputTo : Opcode
 
--- in the order of their codes, from 01 to 0b
+-- in the order of their codes, from 01 to 0c
 abbrev pub opcodes : List Opcode
-opcodes = add ∷ sub ∷ pop ∷ output ∷ push ∷ load ∷ store ∷ jump ∷ bnz ∷ call ∷ ret ∷ []
+opcodes = add ∷ sub ∷ pop ∷ output ∷ push ∷ load ∷ store ∷ jump ∷ bnz ∷ call ∷ ret ∷ outputTo ∷ []
+
+-- those that have a rule of their own, in the order of a rule table
+abbrev pub ruled : List Opcode
+ruled = add ∷ sub ∷ pop ∷ output ∷ push ∷ load ∷ store ∷ jump ∷ bnz ∷ call ∷ ret ∷ []
 
 -- the opcode that has a code
 unfoldable pub opcodeOf : ℕ → Option Opcode
@@ -28,45 +35,66 @@ opcodeOf (suc i) = getElem? opcodes i
 -- The table of commands
 -- ════════════════════════════════════════════════════════════════════════════════════════════
 
--- a row of it: the code, the name, how many bytes the operand has, how many inputs are supplied, and whether there is a result
+-- a row of it: the code, the name, the operand, how many inputs are supplied, whether there is a result, and the number of its rule in a
+-- rule table, from 0
 pub record Description : Type 0 where
   pub code : ℕ
   pub name : List ℕ
-  pub width : ℕ
+  pub operand : Operand
   pub inputs : ℕ
   pub result : Bool
+  pub rule : ℕ
 
-abbrev row : ℕ → String → ℕ → ℕ → Bool → Description
-row code name width inputs result = record { code = code; name = ascii name; width = width; inputs = inputs; result = result }
+abbrev row : ℕ → String → Operand → ℕ → Bool → ℕ → Description
+row code name operand inputs result rule =
+    record { code = code; name = ascii name; operand = operand; inputs = inputs; result = result; rule = rule }
 
--- Pop, Jump, Bnz and Ret have no result; Store's is the cell's, Call's the frame's
+-- no operand
+abbrev bare : Operand
+bare = Signed 0
+
+-- Pop, Jump, Bnz and Ret have no result; Store's is the cell's, Call's the frame's. OutputTo is under Output's rule
 abbrev pub description : Opcode → Description
-description add = row 0x01 "Add" 0 2 true
-description sub = row 0x02 "Sub" 0 2 true
-description pop = row 0x03 "Pop" 0 1 false
-description output = row 0x04 "Output" 0 1 true
-description push = row 0x05 "Push" 8 0 true
-description load = row 0x06 "Load" 0 2 true
-description store = row 0x07 "Store" 0 3 true
-description jump = row 0x08 "Jump" 0 1 false
-description bnz = row 0x09 "Bnz" 2 1 false
-description call = row 0x0a "Call" 0 1 true
-description ret = row 0x0b "Ret" 0 1 false
+description add = row 0x01 "Add" bare 2 true 0
+description sub = row 0x02 "Sub" bare 2 true 1
+description pop = row 0x03 "Pop" bare 1 false 2
+description output = row 0x04 "Output" bare 1 true 3
+description push = row 0x05 "Push" (Signed 8) 0 true 4
+description load = row 0x06 "Load" bare 2 true 5
+description store = row 0x07 "Store" bare 3 true 6
+description jump = row 0x08 "Jump" bare 1 false 7
+description bnz = row 0x09 "Bnz" (Signed 2) 1 false 8
+description call = row 0x0a "Call" bare 1 true 9
+description ret = row 0x0b "Ret" bare 1 false 10
+description outputTo = row 0x0c "OutputTo" Page 1 true 3
 
 abbrev pub codeOf : Opcode → ℕ
 codeOf o = description o .code
 
--- how many bytes the operand has
+abbrev pub operandOf : Opcode → Operand
+operandOf o = description o .operand
+
+-- how many bytes an operand has
+abbrev pub width : Operand → ℕ
+width (Signed k) = k
+width Page = 1
+
 abbrev pub operandWidth : Opcode → ℕ
-operandWidth o = description o .width
+operandWidth o = width (operandOf o)
 
-abbrev pub holds : ℕ → ℤ → Bool
-holds zero z = false
-holds (suc k) z = isSigned (8 * suc k) z
+-- pages are 0 to 15
+abbrev pub isPage : ℤ → Bool
+isPage (pos n) = ltb n 16
+isPage (negsuc n) = false
 
--- is a number in the range of the operand? All that the operand's bytes hold is; nothing is where there is no operand
+-- is a number in the range of an operand? All that its bytes hold is, but for a page; nothing is where there is no operand
+abbrev pub holds : Operand → ℤ → Bool
+holds (Signed zero) z = false
+holds (Signed (suc k)) z = isSigned (8 * suc k) z
+holds Page z = isPage z
+
 abbrev pub inRange : Opcode → ℤ → Bool
-inRange o z = holds (operandWidth o) z
+inRange o z = holds (operandOf o) z
 
 -- how many inputs a command supplies: L1 up to that one may be named
 abbrev pub supplies : Opcode → ℕ
@@ -74,6 +102,10 @@ supplies o = description o .inputs
 
 abbrev pub hasResult : Opcode → Bool
 hasResult o = description o .result
+
+-- the number of the rule that it is under
+abbrev pub ruleNumber : Opcode → ℕ
+ruleNumber o = description o .rule
 
 -- ════════════════════════════════════════════════════════════════════════════════════════════
 -- A command: its opcode, and its operand or 0
@@ -98,6 +130,7 @@ parts Jump = part jump (pos 0)
 parts (Bnz z) = part bnz z
 parts Call = part call (pos 0)
 parts Ret = part ret (pos 0)
+parts (OutputTo z) = part outputTo z
 
 abbrev pub opcode : Command → Opcode
 opcode c = parts c .opcode
@@ -105,7 +138,7 @@ opcode c = parts c .opcode
 abbrev pub operand : Command → ℤ
 operand c = parts c .operand
 
--- the command with an opcode and an operand, which only Push and Bnz have
+-- the command with an opcode and an operand, which only Push, Bnz and OutputTo have
 abbrev pub command : Opcode → ℤ → Command
 command add z = Add
 command sub z = Sub
@@ -118,3 +151,4 @@ command jump z = Jump
 command bnz z = Bnz z
 command call z = Call
 command ret z = Ret
+command outputTo z = OutputTo z

@@ -1,16 +1,20 @@
--- Reading a program (document 01: a sheet) from bytes: its commands, or the first refusal. Checks 1 to 3.
+-- Reading a program (document 01: a sheet) from bytes: its commands, or the first refusal. Checks 1 to 3 and 12.
 use Prim.Native.Nat.{ℕ, zero, suc, _+_}
+use mathlib.Core.Bool.{Bool, true, false}
 use mathlib.Core.List.{List, [], _∷_}
 use mathlib.Core.Option.{Option, none, some}
 use lib.ListN.{length, drop}
 use Rattle.word.specs.declared.field.Field.{Field}
 use Rattle.word.specs.declared.field.Field.the-variants.{Number, Cut}
-use Rattle.word.specs.Field.{signedAt}
+use Rattle.word.specs.Field.{unsignedAt, signedAt}
+use lib.IntN.{ℤ}
 use Rattle.program.specs.declared.Command.{Command}
+use Rattle.program.specs.declared.Operand.{Operand}
+use Rattle.program.specs.declared.Operand.the-variants.{Signed, Page}
 use Rattle.program.specs.declared.Refusal.{Refusal}
 use Rattle.program.specs.declared.Checked.{Checked}
 use Rattle.program.specs.declared.Checked.the-variants as Checked
-use Rattle.program.specs.Command.{Opcode, opcodeOf, operandWidth, command}
+use Rattle.program.specs.Command.{Opcode, opcodeOf, operandOf, operandWidth, isPage, opcode, operand, command}
 
 pub data Decoded : Type 0 where
   refused : Refusal → Decoded
@@ -24,6 +28,11 @@ abbrev pub prepend : Command → Decoded → Decoded
 prepend c (refused r) = refused r
 prepend c (accepted cs) = accepted (c ∷ cs)
 
+-- the operand that stands at a position: a signed number, or a page, which is an unsigned byte
+abbrev pub operandAt : Operand → List ℕ → ℕ → Field
+operandAt (Signed k) bytes at = signedAt k bytes at
+operandAt Page bytes at = unsignedAt 1 bytes at
+
 -- what a code begins with the bytes after it: an unknown command, one whose operand is cut, or a command and its operand's bytes
 pub data First : Type 0 where
   unknown cut : First
@@ -35,13 +44,25 @@ firstOperand o (Number z) = whole (command o z) (operandWidth o)
 
 abbrev pub firstOpcode : Option Opcode → List ℕ → First
 firstOpcode none bytes = unknown
-firstOpcode (some o) bytes = firstOperand o (signedAt (operandWidth o) bytes 0)
+firstOpcode (some o) bytes = firstOperand o (operandAt (operandOf o) bytes 0)
+
+-- may a command have its operand? A page is at most 15
+abbrev pub permitted : Operand → ℤ → Bool
+permitted (Signed k) z = true
+permitted Page z = isPage z
+
+abbrev pub permits : Command → Bool
+permits c = permitted (operandOf (opcode c)) (operand c)
+
+abbrev pub decodeIf : Bool → Command → ℕ → Decoded → Decoded
+decodeIf true c at rest = prepend c rest
+decodeIf false c at rest = refused (refusal 12 at)
 
 -- the command at an offset, then the rest of the program
 abbrev pub decodeFirst : First → ℕ → (ℕ → Decoded) → Decoded
 decodeFirst unknown at rest = refused (refusal 2 at)
 decodeFirst cut at rest = refused (refusal 3 at)
-decodeFirst (whole c width) at rest = prepend c (rest width)
+decodeFirst (whole c width) at rest = decodeIf (permits c) c at (rest width)
 
 -- the commands from the offset `at` on, of which `left` may follow
 unfoldable pub decodeFrom : ℕ → ℕ → List ℕ → Decoded

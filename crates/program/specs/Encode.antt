@@ -1,22 +1,30 @@
 -- Writing a program as bytes.
 use Prim.Native.Nat.{ℕ, zero, suc, _*_}
+use mathlib.Core.Bool.{true}
 use mathlib.Core.Path.{_≡_}
 use mathlib.Core.List.{List, [], _∷_, _++_}
 use mathlib.Core.Option.{Option, none, some}
 use lib.IntN.{ℤ, pos}
 use Rattle.word.specs.Field.{bytesOf}
-use Rattle.word.specs.Wrap.{Signed}
+use Rattle.word.specs.Wrap as Wrap
 use Rattle.program.specs.declared.Command.{Command}
-use Rattle.program.specs.Command.{Opcode, opcode, operand, codeOf, operandWidth}
+use Rattle.program.specs.declared.Operand.{Operand}
+use Rattle.program.specs.declared.Operand.the-variants.{Signed, Page}
+use Rattle.program.specs.Command.{Opcode, opcode, operand, codeOf, operandOf, operandWidth, isPage}
 
 -- a number that so many bytes hold; no bytes hold 0 only
 abbrev pub FitsBytes : ℕ → ℤ → Type 0
 FitsBytes zero z = z ≡ pos 0
-FitsBytes (suc k) z = Signed (8 * suc k) z
+FitsBytes (suc k) z = Wrap.Signed (8 * suc k) z
 
--- a command's operand fits its width
+-- a number that an operand may be
+abbrev pub Fits : Operand → ℤ → Type 0
+Fits (Signed k) z = FitsBytes k z
+Fits Page z = isPage z ≡ true
+
+-- a command's operand may be what it is
 abbrev pub Writable : Command → Type 0
-Writable c = FitsBytes (operandWidth (opcode c)) (operand c)
+Writable c = Fits (operandOf (opcode c)) (operand c)
 
 abbrev pub AllWritable : List Command → Type 0
 AllWritable [] = Unit {0}

@@ -1,28 +1,33 @@
 -- What the code reads of the table of commands, and of one command at a position.
 use Prim.Native.Nat.{ℕ, _+_}
-use mathlib.Core.Bool.{Bool, false}
+use mathlib.Core.Bool.{Bool, true, false}
 use mathlib.Core.List.{List}
 use mathlib.Core.Option.{Option, none, some}
 use lib.IntN.{ℤ}
 use lib.ListN.{getD}
 use Rattle.word.specs.declared.field.Field.{Field}
 use Rattle.word.specs.declared.field.Field.the-variants as Field
-use Rattle.word.specs.Field.{signedAt}
 use Rattle.program.specs.declared.Shape.{Shape}
 use Rattle.program.specs.declared.Shape.the-variants as Shape
 use Rattle.program.specs.declared.Fetched.{Fetched}
 use Rattle.program.specs.declared.Fetched.the-variants.{Is, Unknown, Cut}
-use Rattle.program.specs.Command.{Opcode, opcodeOf, operandWidth, inRange, supplies, hasResult}
+use Rattle.program.specs.Command.{Opcode, opcodeOf, operandOf, operandWidth, inRange, supplies, hasResult, ruleNumber}
+use Rattle.program.specs.Decode.{operandAt, permitted}
 
--- what the table says of an opcode: the operand's bytes, the inputs, whether there is a result
+-- what the table says of an opcode: the operand, the inputs, whether there is a result, the number of its rule
 abbrev pub shapeOf : Option Opcode → Shape
 shapeOf none = Shape.Unknown
-shapeOf (some o) = Shape.Of (operandWidth o) (supplies o) (hasResult o)
+shapeOf (some o) = Shape.Of (operandOf o) (supplies o) (hasResult o) (ruleNumber o)
 
 -- is a number in the range of what a code stands for?
 abbrev pub takesOf : Option Opcode → ℤ → Bool
 takesOf none z = false
 takesOf (some o) z = inRange o z
+
+-- may what a code stands for have this operand?
+abbrev pub permitsOf : Option Opcode → ℤ → Bool
+permitsOf none z = true
+permitsOf (some o) z = permitted (operandOf o) z
 
 abbrev pub fetchField : Field → ℕ → Fetched
 fetchField Field.Cut next = Cut
@@ -30,7 +35,7 @@ fetchField (Field.Number z) next = Is z next
 
 abbrev pub fetchOpcode : Option Opcode → List ℕ → ℕ → Fetched
 fetchOpcode none s p = Unknown
-fetchOpcode (some o) s p = fetchField (signedAt (operandWidth o) s p) (p + operandWidth o)
+fetchOpcode (some o) s p = fetchField (operandAt (operandOf o) s p) (p + operandWidth o)
 
 -- the operand of the command at a position and the position after it
 unfoldable pub fetchOf : List ℕ → ℕ → Fetched

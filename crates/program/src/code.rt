@@ -20,3 +20,5 @@ pub const BNZ: u64 = 0x09;
 pub const CALL: u64 = 0x0a;
 
 pub const RET: u64 = 0x0b;
+
+pub const OUTPUT_TO: u64 = 0x0c;

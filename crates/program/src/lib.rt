@@ -3,19 +3,20 @@ pub mod code;
 pub mod names;
 
 ghost use mathlib.Core.Path.{_≡_};
-ghost use Prim.Native.Nat.{_<_};
+ghost use Prim.Native.Nat.{_+_, _<_};
 ghost use lib.ListN.{length};
 ghost use Rattle.program.specs.Decode.{decode, checkAnswer};
-ghost use Rattle.program.specs.Command.{opcodeOf};
+ghost use Rattle.program.specs.Command.{opcodeOf, width, isPage};
 ghost use Rattle.word.specs.Text.{putAnswer, putOut};
 ghost use Rattle.program.specs.Encode.{encodeCode};
-ghost use Rattle.program.specs.Fetch.{shapeOf, takesOf, fetchField, fetchOf};
+ghost use Rattle.word.specs.Field.{unsignedAt};
+ghost use Rattle.program.specs.Fetch.{shapeOf, takesOf, permitsOf, fetchField, fetchOf};
 ghost use Rattle.program.specs.Name.{nameOf, codeNamed};
 ghost use Rattle.program.specs.Space.{writeSpace};
 use word::field::Field;
 use word::text::Put;
 
-// A command of document 01, with its operand where it has one: what the definitions speak of.
+// A command of documents 01 and 02, with its operand where it has one: what the definitions speak of.
 pub enum Command {
     Add,
     Sub,
@@ -28,6 +29,7 @@ pub enum Command {
     Bnz(i64),
     Call,
     Ret,
+    OutputTo(i64),
 }
 
 // A refusal of document 01: its number and its place.
@@ -48,9 +50,16 @@ pub struct Name {
     pub length: usize,
 }
 
-// What the table of commands says of a code: how many bytes the operand has, how many inputs are supplied, whether there is a result.
+// A command's operand: a signed number of so many bytes, of none where there is no operand; or a page, an unsigned byte from 0 to 15.
+pub enum Operand {
+    Signed(usize),
+    Page,
+}
+
+// What the table of commands says of a code: its operand, how many inputs are supplied, whether there is a result, and the number of its
+// rule in a rule table.
 pub enum Shape {
-    Of(usize, usize, bool),
+    Of(Operand, usize, bool, usize),
     Unknown,
 }
 
@@ -66,17 +75,18 @@ pub fn shape_of(code: u64) -> Shape
     ensures { λ r. ⌜ r ≡ shapeOf (opcodeOf code) ⌝ }
 {
     match code {
-        code::ADD => Shape::Of(0, 2, true),
-        code::SUB => Shape::Of(0, 2, true),
-        code::POP => Shape::Of(0, 1, false),
-        code::OUTPUT => Shape::Of(0, 1, true),
-        code::PUSH => Shape::Of(8, 0, true),
-        code::LOAD => Shape::Of(0, 2, true),
-        code::STORE => Shape::Of(0, 3, true),
-        code::JUMP => Shape::Of(0, 1, false),
-        code::BNZ => Shape::Of(2, 1, false),
-        code::CALL => Shape::Of(0, 1, true),
-        code::RET => Shape::Of(0, 1, false),
+        code::ADD => Shape::Of(Operand::Signed(0), 2, true, 0),
+        code::SUB => Shape::Of(Operand::Signed(0), 2, true, 1),
+        code::POP => Shape::Of(Operand::Signed(0), 1, false, 2),
+        code::OUTPUT => Shape::Of(Operand::Signed(0), 1, true, 3),
+        code::PUSH => Shape::Of(Operand::Signed(8), 0, true, 4),
+        code::LOAD => Shape::Of(Operand::Signed(0), 2, true, 5),
+        code::STORE => Shape::Of(Operand::Signed(0), 3, true, 6),
+        code::JUMP => Shape::Of(Operand::Signed(0), 1, false, 7),
+        code::BNZ => Shape::Of(Operand::Signed(2), 1, false, 8),
+        code::CALL => Shape::Of(Operand::Signed(0), 1, true, 9),
+        code::RET => Shape::Of(Operand::Signed(0), 1, false, 10),
+        code::OUTPUT_TO => Shape::Of(Operand::Page, 1, true, 3),
         _ => Shape::Unknown,
     }
 }
@@ -130,6 +140,10 @@ pub fn name_of(code: u64) -> Name
             word: names::RET,
             length: 3,
         },
+        code::OUTPUT_TO => Name {
+            word: names::OUTPUT_TO,
+            length: 8,
+        },
         _ => Name { word: 0, length: 0 },
     }
 }
@@ -143,6 +157,16 @@ pub fn code_of(word: u64) -> u64
     if name.word == word { guess } else { 0 }
 }
 
+// Pages are 0 to 15.
+fn is_page(number: i64) -> bool
+    ensures { λ r. ⌜ r ≡ isPage number ⌝ }
+{
+    if number < 0 {
+        return false;
+    }
+    number < 16
+}
+
 // Is a number in the range of a code's operand? No number is where there is no operand.
 pub fn takes(code: u64, number: i64) -> bool
     ensures { λ r. ⌜ r ≡ takesOf (opcodeOf code) number ⌝ }
@@ -150,18 +174,35 @@ pub fn takes(code: u64, number: i64) -> bool
     let shape = shape_of(code);
     match shape {
         Shape::Unknown => false,
-        Shape::Of(width, _, _) => {
-            if width == 8 {
-                return true;
-            }
-            if width == 2 {
-                if number < -32768 {
-                    return false;
+        Shape::Of(operand, _, _, _) => match operand {
+            Operand::Page => is_page(number),
+            Operand::Signed(width) => {
+                if width == 8 {
+                    return true;
                 }
-                return number < 32768;
+                if width == 2 {
+                    if number < -32768 {
+                        return false;
+                    }
+                    return number < 32768;
+                }
+                false
             }
-            false
-        }
+        },
+    }
+}
+
+// May the command of a code have this operand? A page is 0 to 15.
+fn permits(code: u64, operand: i64) -> bool
+    ensures { λ r. ⌜ r ≡ permitsOf (opcodeOf code) operand ⌝ }
+{
+    let shape = shape_of(code);
+    match shape {
+        Shape::Unknown => true,
+        Shape::Of(kind, _, _, _) => match kind {
+            Operand::Signed(_) => true,
+            Operand::Page => is_page(operand),
+        },
     }
 }
 
@@ -175,7 +216,18 @@ fn with_field(field: Field, next: usize) -> Fetched
     }
 }
 
-// The command at a position; beyond the end it is unknown.
+// A page as an operand: its byte is looked at here, where it costs least, so that the compiler puts `fetch` into its callers.
+fn page_at(bytes: &[u8], at: usize) -> Fetched
+    ensures { λ r. ⌜ r ≡ fetchField (unsignedAt 1 (now (bytes .entry)) at) (at + 1) ⌝ }
+{
+    if at < bytes.len() {
+        Fetched::Is(bytes[at] as i64, at + 1)
+    } else {
+        Fetched::Cut
+    }
+}
+
+// The command at a position, whatever its page; beyond the end it is unknown.
 pub fn command_at(bytes: &[u8], at: usize) -> Fetched
     ensures { λ r. ⌜ r ≡ fetchOf (now (bytes .entry)) at ⌝ }
 {
@@ -195,15 +247,28 @@ fn fetch(bytes: &[u8], at: usize) -> Fetched
     let shape = shape_of(wide(bytes[at]));
     match shape {
         Shape::Unknown => Fetched::Unknown,
-        Shape::Of(width, _, _) => {
-            if width == 8 {
-                return with_field(word::field::i64_at(bytes, next), next + 8);
+        Shape::Of(operand, _, _, _) => match operand {
+            Operand::Page => page_at(bytes, next),
+            Operand::Signed(width) => {
+                if width == 8 {
+                    return with_field(word::field::i64_at(bytes, next), next + 8);
+                }
+                if width == 2 {
+                    return with_field(word::field::i16_at(bytes, next), next + 2);
+                }
+                Fetched::Is(0, next)
             }
-            if width == 2 {
-                return with_field(word::field::i16_at(bytes, next), next + 2);
-            }
-            Fetched::Is(0, next)
-        }
+        },
+    }
+}
+
+// How many bytes an operand has.
+pub fn width_of(operand: Operand) -> usize
+    ensures { λ r. ⌜ r ≡ width operand ⌝ }
+{
+    match operand {
+        Operand::Signed(width) => width,
+        Operand::Page => 1,
     }
 }
 
@@ -221,7 +286,8 @@ pub fn put(code: u64, operand: i64, out: &mut [u8], at: usize) -> Put
             }
             Put::Next(at)
         }
-        Shape::Of(width, _, _) => {
+        Shape::Of(kind, _, _, _) => {
+            let width = width_of(kind);
             if out.len() <= at {
                 return Put::NoRoom;
             }
@@ -235,6 +301,9 @@ pub fn put(code: u64, operand: i64, out: &mut [u8], at: usize) -> Put
             if width == 2 {
                 return word::field::put_i16(operand, out, at + 1);
             }
+            if width == 1 {
+                return word::field::put_byte(operand, out, at + 1);
+            }
             Put::Next(at + 1)
         }
     }
@@ -246,7 +315,7 @@ fn wide(byte: u8) -> u64
     byte as u64
 }
 
-// Checks 1 to 3 of document 01 over any bytes: each command from the left.
+// Checks 1 to 3 and 12 over any bytes: each command from the left.
 pub fn check(bytes: &[u8]) -> Checked
     ensures { λ r. ⌜ r ≡ checkAnswer (decode (now (bytes .entry))) ⌝ }
 {
@@ -259,11 +328,19 @@ pub fn check(bytes: &[u8]) -> Checked
                 position: at,
             });
         }
+        let code = wide(bytes[at]);
         let fetched = fetch(bytes, at);
         match fetched {
-            Fetched::Is(_, next) => {
-                at = next;
-                count += 1;
+            Fetched::Is(operand, next) => {
+                if permits(code, operand) {
+                    at = next;
+                    count += 1;
+                } else {
+                    return Checked::Refused(Refusal {
+                        code: 12,
+                        position: at,
+                    });
+                }
             }
             Fetched::Unknown => {
                 return Checked::Refused(Refusal {

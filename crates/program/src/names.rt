@@ -32,6 +32,9 @@ pub const CALL: u64 = 0x43616c6c;
 // Ret
 pub const RET: u64 = 0x526574;
 
+// OutputTo
+pub const OUTPUT_TO: u64 = 0x4f7574707574546f;
+
 // For each remainder modulo 32 of w / 2^8 + w / 2^15, the code of the one command whose name's word w has it, or 0.
 pub const GUESSES: [u64; 32] = [
     0,
@@ -62,7 +65,7 @@ pub const GUESSES: [u64; 32] = [
     0,
     0,
     2,
-    0,
+    12,
     5,
     0,
     6,

@@ -9,6 +9,7 @@ mod trial;
 fn main() {
     readings::labelled();
     readings::others();
+    readings::pages();
     readings::rows();
     stops::places();
     stops::entries();

@@ -42,6 +42,17 @@ pub(crate) fn others() {
     on_two(b"R10: ", b"\x05\x02\0\0\0\0\0\0\0\x06", 5, 1000);
 }
 
+// Cell 1 on page 1, cell 0 on page 0; a page that is no page.
+pub(crate) fn pages() {
+    on_two(
+        b"OutputTo 1, Output: ",
+        b"\x05\x01\0\0\0\0\0\0\0\x06\x0c\x01\x05\0\0\0\0\0\0\0\0\x06\x04",
+        5,
+        1000,
+    );
+    on_two(b"OutputTo 16: ", b"\x0b\x0c\x10", 5, 1000);
+}
+
 // R11 and R12, and a Push whose row is there already.
 pub(crate) fn rows() {
     on_row(b"R11: ", b"", [1, 0, 1, 1, -1, 0, 1]);

@@ -16,7 +16,9 @@ fn counted(name: &[u8], n: u64) {
 
 fn line(x: Line) {
     let kind = x.kind;
-    print::text(b" (");
+    print::text(b" (page ");
+    print::number(x.page);
+    print::text(b": ");
     match kind {
         Kind::Number => print::number(x.number),
         Kind::End => print::text(b"end"),
@@ -25,10 +27,10 @@ fn line(x: Line) {
     print::text(b")");
 }
 
-fn lines(numbers: &[i64], labels: &[i64], kinds: &[i64], count: usize) {
+fn lines(numbers: &[i64], labels: &[i64], kinds: &[i64], pages: &[i64], count: usize) {
     let mut i: usize = 0;
     while i < count {
-        line(engine::line_at(numbers, labels, kinds, i));
+        line(engine::line_at(numbers, labels, kinds, pages, i));
         i += 1;
     }
 }
@@ -52,19 +54,33 @@ fn refused(r: Refusal, same: bool) {
     }
 }
 
-fn report(answer: Answer, same: bool, numbers: &[i64], labels: &[i64], kinds: &[i64]) {
+fn report(
+    answer: Answer,
+    same: bool,
+    numbers: &[i64],
+    labels: &[i64],
+    kinds: &[i64],
+    pages: &[i64],
+) {
     match answer {
         Answer::Refused(r) => refused(r, same),
         Answer::Stopped(ran) => {
             stopped(ran);
-            lines(numbers, labels, kinds, ran.machine.lines);
+            lines(numbers, labels, kinds, pages, ran.machine.lines);
         }
     }
 }
 
-fn report_tagged(r: Tagged, same: bool, numbers: &[i64], labels: &[i64], kinds: &[i64]) {
+fn report_tagged(
+    r: Tagged,
+    same: bool,
+    numbers: &[i64],
+    labels: &[i64],
+    kinds: &[i64],
+    pages: &[i64],
+) {
     let answer = r.answer;
-    report(answer, same, numbers, labels, kinds);
+    report(answer, same, numbers, labels, kinds, pages);
     counted(b", faults ", r.faults);
     counted(b", kernel steps ", r.kernel);
     print::text(b", rule memory ");
@@ -81,10 +97,12 @@ fn lent(
     numbers: &[i64],
     line_labels: &[i64],
     kinds: &[i64],
+    pages: &[i64],
 ) -> u64 {
     let cells = digest(digest(0, values), labels);
     let spaces = digest(digest(cells, program), stack);
-    digest(digest(digest(spaces, numbers), line_labels), kinds)
+    let lines = digest(digest(spaces, numbers), line_labels);
+    digest(digest(lines, kinds), pages)
 }
 
 // The tag engine under the standard table, with space for 257 commands, the handler and three lines.
@@ -92,10 +110,11 @@ fn on(sheet: &[u8], values: &mut [i64], labels: &mut [i64], cache: Cache, fuel: 
     let table = policy::standard_table::bytes();
     let mut program = [-7i64; 514];
     let mut stack = [-7i64; 768];
-    let mut handler = [-7i64; 302];
+    let mut handler = [-7i64; 304];
     let mut numbers = [-7i64; 3];
     let mut line_labels = [-7i64; 3];
     let mut kinds = [-7i64; 3];
+    let mut pages = [-7i64; 3];
     let before = digest(
         lent(
             values,
@@ -105,6 +124,7 @@ fn on(sheet: &[u8], values: &mut [i64], labels: &mut [i64], cache: Cache, fuel: 
             &numbers,
             &line_labels,
             &kinds,
+            &pages,
         ),
         &handler,
     );
@@ -120,6 +140,7 @@ fn on(sheet: &[u8], values: &mut [i64], labels: &mut [i64], cache: Cache, fuel: 
         &mut numbers,
         &mut line_labels,
         &mut kinds,
+        &mut pages,
         fuel,
     );
     let after = digest(
@@ -131,10 +152,11 @@ fn on(sheet: &[u8], values: &mut [i64], labels: &mut [i64], cache: Cache, fuel: 
             &numbers,
             &line_labels,
             &kinds,
+            &pages,
         ),
         &handler,
     );
-    report_tagged(r, before == after, &numbers, &line_labels, &kinds);
+    report_tagged(r, before == after, &numbers, &line_labels, &kinds, &pages);
 }
 
 // The plain engine, so too.
@@ -145,6 +167,7 @@ fn plainly(sheet: &[u8], values: &mut [i64], labels: &mut [i64], fuel: u64) {
     let mut numbers = [-7i64; 3];
     let mut line_labels = [-7i64; 3];
     let mut kinds = [-7i64; 3];
+    let mut pages = [-7i64; 3];
     let before = lent(
         values,
         labels,
@@ -153,6 +176,7 @@ fn plainly(sheet: &[u8], values: &mut [i64], labels: &mut [i64], fuel: u64) {
         &numbers,
         &line_labels,
         &kinds,
+        &pages,
     );
     let answer = plain::execute(
         sheet,
@@ -163,6 +187,7 @@ fn plainly(sheet: &[u8], values: &mut [i64], labels: &mut [i64], fuel: u64) {
         &mut numbers,
         &mut line_labels,
         &mut kinds,
+        &mut pages,
         fuel,
     );
     let after = lent(
@@ -173,8 +198,16 @@ fn plainly(sheet: &[u8], values: &mut [i64], labels: &mut [i64], fuel: u64) {
         &numbers,
         &line_labels,
         &kinds,
+        &pages,
     );
-    report(answer, before == after, &numbers, &line_labels, &kinds);
+    report(
+        answer,
+        before == after,
+        &numbers,
+        &line_labels,
+        &kinds,
+        &pages,
+    );
     print::line();
 }
 

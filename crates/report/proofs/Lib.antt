@@ -3,3 +3,4 @@ pub mod Reading
 pub mod Texts
 pub mod Printing
 pub mod Paging
+pub mod Pages

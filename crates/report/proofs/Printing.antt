@@ -48,7 +48,7 @@ written-hidden reader x old at f = rw f (record { end = sym (add-zero at); space
 
 pub record Printing (reader : ℕ) (xs : List Line) (out₀ out : List ℕ) (at i : ℕ) : Type 0 where
   pub few : i ≤ length xs
-  pub short : at ≤ 30 * i
+  pub short : at ≤ 33 * i
   pub same : length out ≡ length out₀
   pub left : laidAt at (linesText reader (drop i xs)) out ≡ laidAt 0 (linesText reader xs) out₀
   pub rest : at + length (linesText reader (drop i xs)) ≡ length (linesText reader xs)
@@ -76,8 +76,8 @@ module _ (reader : ℕ) (xs : List Line) (out₀ : List ℕ) where
           space = sym (ap (λ (t : List ℕ). laidAt at t out) e ∙ laidAt-nil at out) ∙ p .left;
         }
 
-    pub printing-next : (x : Line) → drop i xs ≡ x ∷ drop (i + 1) xs → i < length xs → 30 * length xs ≤ length out₀
-        → (next : ℕ) (new : List ℕ) → Written (shownText reader x) out at next new → next ≤ at + 30
+    pub printing-next : (x : Line) → drop i xs ≡ x ∷ drop (i + 1) xs → i < length xs → 33 * length xs ≤ length out₀
+        → (next : ℕ) (new : List ℕ) → Written (shownText reader x) out at next new → next ≤ at + 33
         → Printing reader xs out₀ new next (i + 1)
     unfolding linesText
     printing-next x d h room next new w l =

@@ -1,6 +1,7 @@
 -- Texts written one after the other, and how long the parts of a page are.
 -- Assumes nothing.
 use mathlib.Core.Path.{_≡_, refl, sym, ap, _∙_}
+use mathlib.Core.Bool.{true}
 use mathlib.Core.List.{List, _++_}
 use Prim.Native.Nat.{ℕ, suc, _+_, _^_, _<_, _≤_}
 use native.Mathlib.Numerals.{add-one}
@@ -16,10 +17,12 @@ use Rattle.word.specs.declared.text.Put.{Put}
 use Rattle.word.proofs.Lay.{laidAt-nil, laidAt-cons, laidAt-append, length-laidAt}
 use Rattle.word.proofs.Laws.Numeral.{numeral-length, digitCount-le, digitCount-within}
 use Rattle.word.proofs.Laws.Text.{put-room}
+use Rattle.program.specs.Command.{isPage}
+use Rattle.program.proofs.Ranges.{page-digits}
 use Rattle.machine.specs.declared.Kind.{Kind}
 use Rattle.machine.specs.declared.Kind.the-variants.{Number, End}
 use Rattle.machine.specs.Atom.{Line}
-use Rattle.report.specs.Lines.{space, newline, jobWord, refusedWord, jobText, refusedText, headText, lineText}
+use Rattle.report.specs.Lines.{space, newline, jobWord, refusedWord, jobText, refusedText, pageText, headText, lineText}
 use Rattle.report.specs.Written.{Written, nextOf}
 
 -- ════════════════════════════════════════════════════════════════════════════════════════════
@@ -113,10 +116,16 @@ pub head-short : (k : Kind) (z : ℤ) → mag z < 2 ^ 63 → length (headText k 
 head-short Number z h = decimal-short z h
 head-short End z h = omega arith
 
-pub line-short : (x : Line) → mag (x .number) < 2 ^ 63 → length (lineText x) ≤ 30
+-- a page has at most two digits
+pub page-short : (z : ℤ) → isPage z ≡ true → length (pageText z) ≤ 3
+unfolding pageText
+page-short z h = simp length-append (omega (arith, page-digits z h))
+
+pub line-short : (x : Line) → isPage (x .page) ≡ true → mag (x .number) < 2 ^ 63 → length (lineText x) ≤ 33
 unfolding lineText
-line-short x h =
-    simp length-append (omega (arith, head-short (x .kind) (x .number) h, hexadecimal-length (x .label)))
+line-short x p h =
+    simp length-append
+    (omega (arith, page-short (x .page) p, head-short (x .kind) (x .number) h, hexadecimal-length (x .label)))
 
 -- ════════════════════════════════════════════════════════════════════════════════════════════
 -- The messages and a line, part by part
@@ -146,15 +155,20 @@ written-refused number place o₀ o₁ o₂ o₃ o₄ o₅ a b c d e h v w x y z
     written-append (refusedWord ++ space ++ natural number ++ space ++ natural place) newline o₀ o₄ o₅ 0 d e
     (simp length-append (omega arith)) four z
 
-pub written-line : (x : Line) (o₀ o₁ o₂ o₃ o₄ : List ℕ) (at a b c d : ℕ) → mag (x .number) < 2 ^ 63 → at + 30 ≤ length o₀
-    → Written (headText (x .kind) (x .number)) o₀ at a o₁ → Written space o₁ a b o₂ → Written (hexadecimal (x .label)) o₂ b c o₃
-    → Written newline o₃ c d o₄ → Written (lineText x) o₀ at d o₄
+pub written-line : (x : Line) (o₀ o₁ o₂ o₃ o₄ o₅ : List ℕ) (at p a b c d : ℕ) → isPage (x .page) ≡ true → mag (x .number) < 2 ^ 63
+    → at + 33 ≤ length o₀ → Written (pageText (x .page)) o₀ at p o₁ → Written (headText (x .kind) (x .number)) o₁ p a o₂
+    → Written space o₂ a b o₃ → Written (hexadecimal (x .label)) o₃ b c o₄ → Written newline o₄ c d o₅
+    → Written (lineText x) o₀ at d o₅
 unfolding lineText
-written-line l o₀ o₁ o₂ o₃ o₄ at a b c d f h w x y z =
+written-line l o₀ o₁ o₂ o₃ o₄ o₅ at p a b c d g f h v w x y z =
+    let page = pageText (l .page) in
     let first = headText (l .kind) (l .number) in
+    let label = hexadecimal (l .label) in
+    let m = page-short (l .page) g in
     let n = head-short (l .kind) (l .number) f in
     let k = hexadecimal-length (l .label) in
-    let two = written-append first space o₀ o₁ o₂ at a b (omega arith) w x in
-    let three = written-append (first ++ space) (hexadecimal (l .label)) o₀ o₂ o₃ at b c (simp length-append (omega arith)) two y in
-    written-append (first ++ space ++ hexadecimal (l .label)) newline o₀ o₃ o₄ at c d
+    let one = written-append page first o₀ o₁ o₂ at p a (omega arith) v w in
+    let two = written-append (page ++ first) space o₀ o₂ o₃ at a b (simp length-append (omega arith)) one x in
+    let three = written-append (page ++ first ++ space) label o₀ o₃ o₄ at b c (simp length-append (omega arith)) two y in
+    written-append (page ++ first ++ space ++ label) newline o₀ o₄ o₅ at c d
     (simp length-append (omega arith)) three z

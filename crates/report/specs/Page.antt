@@ -26,11 +26,11 @@ zeros n = replicate n (pos 0)
 -- the memory that it lends: working space for as many commands as a sheet may have and for 256 stack entries, the job's cells, and
 -- 1,024 lines of space
 abbrev pub lentFor : Cells → Memory
-lentFor c = memory (zeros (2 * 4096)) (lent (zeros (3 * 256)) c) (output (zeros 1024) (zeros 1024) (zeros 1024))
+lentFor c = memory (zeros (2 * 4096)) (lent (zeros (3 * 256)) c) (output (zeros 1024) (zeros 1024) (zeros 1024) (zeros 1024))
 
--- the tag engine, standard table and empty rule memory, with space for the standard table's handler, which has 151 commands
+-- the tag engine, standard table and empty rule memory, with space for the standard table's handler, which has 152 commands
 abbrev pub endFor : Cells → (allowance : ℕ) → List ℕ → Left
-endFor c allowance bytes = tagged bytes standardBytes (zeros 7) (lentFor c) (zeros (2 * 151)) allowance
+endFor c allowance bytes = tagged bytes standardBytes (zeros 7) (lentFor c) (zeros (2 * 152)) allowance
 
 -- a refusal prints only itself; else the lines written that the reader may see
 abbrev pub answerText : (reader : ℕ) → Answer → Output → List ℕ
@@ -50,9 +50,9 @@ readingText job h (sheet start) = runText (cells (h .values) (h .labels)) (h .al
 unfoldable pub pageOf : List ℕ → List ℕ
 pageOf job = readingText job (readJob job .heard) (readJob job .ending)
 
--- 1,024 lines of at most 30 bytes: 20 for the number or `end`, a space, 8 for the label, a newline
+-- 1,024 lines of at most 33 bytes: 2 for the page, a space, 20 for the number or `end`, a space, 8 for the label, a newline
 abbrev pub pageLimit : ℕ
-pageLimit = 30720
+pageLimit = 33792
 
 -- a space shorter than that is left as it came; else the page stands at its start
 abbrev pub pageAnswer : (job out : List ℕ) → Outcome

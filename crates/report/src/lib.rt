@@ -16,7 +16,7 @@ ghost use Rattle.report.specs.Written.{Written};
 ghost use Rattle.report.specs.Page.{runText, pageOf, pageLimit, pageAnswer, pageOut, printedOf};
 
 // No page is longer.
-pub const PAGE_LIMIT: usize = 30720;
+pub const PAGE_LIMIT: usize = 33792;
 
 // How many bytes a page has, or that the space lent for it is shorter than the longest page.
 pub enum Outcome {
@@ -40,10 +40,11 @@ fn run(
     let table = policy::standard_table::bytes();
     let mut program = [0i64; 8192];
     let mut stack = [0i64; 768];
-    let mut handler = [0i64; 302];
+    let mut handler = [0i64; 304];
     let mut numbers = [0i64; 1024];
     let mut line_labels = [0i64; 1024];
     let mut kinds = [0i64; 1024];
+    let mut pages = [0i64; 1024];
     let ended = tagged::execute(
         sheet,
         values,
@@ -56,6 +57,7 @@ fn run(
         &mut numbers,
         &mut line_labels,
         &mut kinds,
+        &mut pages,
         allowance,
     );
     let answer = ended.answer;
@@ -64,7 +66,7 @@ fn run(
         Answer::Stopped(ran) => {
             let machine = ran.machine;
             let lines = machine.lines;
-            print::lines(&numbers, &line_labels, &kinds, lines, reader, out)
+            print::lines(&numbers, &line_labels, &kinds, &pages, lines, reader, out)
         }
     }
 }

@@ -12,7 +12,9 @@ ghost use lib.ListN.{length};
 ghost use Rattle.word.specs.Text.{natural, decimal, hexadecimal};
 ghost use Rattle.engine.specs.Memory.{output};
 ghost use Rattle.engine.specs.Layout.{lineFrom, linesOf};
-ghost use Rattle.report.specs.Lines.{jobText, refusedText, headText, lineText, shownText, linesText};
+ghost use mathlib.Core.Bool.{true};
+ghost use Rattle.program.specs.Command.{isPage};
+ghost use Rattle.report.specs.Lines.{jobText, refusedText, pageText, headText, lineText, shownText, linesText, PageWords};
 ghost use Rattle.report.specs.Written.{Written, nextOf};
 
 fn bytes(text: &[u8], out: &mut [u8], at: usize) -> usize
@@ -80,7 +82,16 @@ pub(crate) fn refused(r: Refusal, out: &mut [u8]) -> usize
     bytes(b"\n", out, place)
 }
 
-// What a line starts with: its number, or `end`.
+// What a line starts with: its page, which has at most two digits, and a space.
+fn page(n: i64, out: &mut [u8], at: usize) -> usize
+    requires { ⌜ (at + 21 ≤ length (now out)) × (isPage n ≡ true) ⌝ }
+    ensures { λ r. ⌜ Written (pageText n) (now (out .entry)) at r (now (out .exit)) ⌝ }
+{
+    let last = signed_number(n, out, at);
+    bytes(b" ", out, last)
+}
+
+// Then its number, or `end`.
 fn head(kind: Kind, n: i64, out: &mut [u8], at: usize) -> usize
     requires { ⌜ at + 20 ≤ length (now out) ⌝ }
     ensures { λ r. ⌜ Written (headText kind n) (now (out .entry)) at r (now (out .exit)) ⌝ }
@@ -91,15 +102,16 @@ fn head(kind: Kind, n: i64, out: &mut [u8], at: usize) -> usize
     }
 }
 
-// A line: at most 20 bytes for the number, 8 for the label, a space and a newline.
+// A line: at most 2 bytes for the page, 20 for the number, 8 for the label, two spaces and a newline.
 fn line(x: Line, out: &mut [u8], at: usize) -> usize
-    requires { ⌜ at + 30 ≤ length (now out) ⌝ }
+    requires { ⌜ (at + 33 ≤ length (now out)) × (isPage (x .page) ≡ true) ⌝ }
     ensures text { λ r. ⌜ Written (lineText (lineFrom x)) (now (out .entry)) at r (now (out .exit)) ⌝ }
-    ensures short { λ r. ⌜ r ≤ at + 30 ⌝ }
+    ensures short { λ r. ⌜ r ≤ at + 33 ⌝ }
 {
     let kind = x.kind;
     let label = x.label;
-    let first = head(kind, x.number, out, at);
+    let start = page(x.page, out, at);
+    let first = head(kind, x.number, out, start);
     let gap = bytes(b" ", out, first);
     let second = digits(label, out, gap);
     bytes(b"\n", out, second)
@@ -107,9 +119,9 @@ fn line(x: Line, out: &mut [u8], at: usize) -> usize
 
 // A line that the reader may see, or nothing.
 fn shown(x: Line, reader: Label, out: &mut [u8], at: usize) -> usize
-    requires { ⌜ at + 30 ≤ length (now out) ⌝ }
+    requires { ⌜ (at + 33 ≤ length (now out)) × (isPage (x .page) ≡ true) ⌝ }
     ensures text { λ r. ⌜ Written (shownText (reader .0) (lineFrom x)) (now (out .entry)) at r (now (out .exit)) ⌝ }
-    ensures short { λ r. ⌜ r ≤ at + 30 ⌝ }
+    ensures short { λ r. ⌜ r ≤ at + 33 ⌝ }
 {
     if x.label.flows(reader) {
         line(x, out, at)
@@ -123,21 +135,25 @@ pub(crate) fn lines(
     numbers: &[i64],
     line_labels: &[i64],
     kinds: &[i64],
+    pages: &[i64],
     written: usize,
     reader: Label,
     out: &mut [u8],
 ) -> usize
-    requires { ⌜ 30 * length (now numbers) ≤ length (now out) ⌝ }
+    requires { ⌜ (33 * length (now numbers) ≤ length (now out)) × PageWords (now pages) ⌝ }
     ensures { λ r. ⌜ Written
         (linesText (reader .0)
-        (linesOf written (output (now (numbers .entry)) (now («line_labels» .entry)) (now (kinds .entry)))))
+        (linesOf written (output (now (numbers .entry)) (now («line_labels» .entry)) (now (kinds .entry)) (now (pages .entry)))))
         (now (out .entry)) 0 r (now (out .exit)) ⌝ }
 {
-    let count = shorter(written, room(numbers.len(), line_labels.len(), kinds.len()));
+    let count = shorter(
+        written,
+        room(numbers.len(), line_labels.len(), kinds.len(), pages.len()),
+    );
     let mut at: usize = 0;
     let mut i: usize = 0;
     while i < count {
-        let x = engine::line_at(numbers, line_labels, kinds, i);
+        let x = engine::line_at(numbers, line_labels, kinds, pages, i);
         at = shown(x, reader, out, at);
         i += 1;
     }

@@ -57,10 +57,10 @@ abbrev pub prints : ℕ
 prints = 257
 
 abbrev pub outcome : Machine → ℕ → Stepped
-outcome m stop = record { machine = m; stop = stop; number = pos 0; label = record { 0 = 0 } }
+outcome m stop = record { machine = m; stop = stop; page = pos 0; number = pos 0; label = record { 0 = 0 } }
 
-abbrev pub printing : Machine → ℤ → ℕ → Stepped
-printing m number label = record { machine = m; stop = prints; number = number; label = record { 0 = label } }
+abbrev pub printing : Machine → ℤ → ℤ → ℕ → Stepped
+printing m page number label = record { machine = m; stop = prints; page = page; number = number; label = record { 0 = label } }
 
 -- the kind of an entry that is not there
 abbrev pub nothingThere : ℕ

@@ -108,11 +108,12 @@ pub const CARRIED: u64 = 256;
 // The same, but for its line, which it hands back.
 pub const PRINTS: u64 = 257;
 
-// A machine after a command: carried out, or stopped, and then the command changed nothing. A line that it hands back has the number and
-// the label.
+// A machine after a command: carried out, or stopped, and then the command changed nothing. A line that it hands back has the page, the
+// number and the label.
 pub struct Stepped {
     pub machine: Machine,
     pub stop: u64,
+    pub page: i64,
     pub number: i64,
     pub label: Label,
 }
@@ -124,6 +125,7 @@ pub fn stopped(machine: Machine, stop: u64) -> Stepped
     Stepped {
         machine,
         stop,
+        page: 0,
         number: 0,
         label: Label::EMPTY,
     }
@@ -136,13 +138,14 @@ pub fn carried(machine: Machine) -> Stepped
     stopped(machine, CARRIED)
 }
 
-// Carried out, but for the line with this number and label.
-pub fn printing(machine: Machine, number: i64, label: Label) -> Stepped
-    ensures { λ r. ⌜ r ≡ printing machine number (label .0) ⌝ }
+// Carried out, but for the line on this page with this number and label.
+pub fn printing(machine: Machine, page: i64, number: i64, label: Label) -> Stepped
+    ensures { λ r. ⌜ r ≡ printing machine page number (label .0) ⌝ }
 {
     Stepped {
         machine,
         stop: PRINTS,
+        page,
         number,
         label,
     }

@@ -38,8 +38,9 @@ module _ (p r : ℕ) (m : Machine) where
   unfoldable pub arithEffect : ℕ → List ℤ → OnStack
   arithEffect code stack = arithFrom stack (sumOf code (first m stack .number) (second m stack .number))
 
-  unfoldable pub outputEffect : List ℤ → Stepped
-  outputEffect stack = printing (following (dropped m) p) (first m stack .number) r
+  -- Output writes to page 0, OutputTo to its operand
+  unfoldable pub outputEffect : ℤ → List ℤ → Stepped
+  outputEffect page stack = printing (following (dropped m) p) page (first m stack .number) r
 
   -- with room on the stack
   unfoldable pub pushEffect : ℤ → List ℤ → OnStack
@@ -90,7 +91,7 @@ effectOf p r m code operand l =
     (choose (ltb code 3)
     (withStack l (arithEffect p r m code (l .stack)))
     (choose (ltb code 5)
-    (choose (eqb code 3) (after (popEffect p m) l) (after (outputEffect p r m (l .stack)) l))
+    (choose (eqb code 3) (after (popEffect p m) l) (after (outputEffect p r m (pos 0) (l .stack)) l))
     (withStack l (pushEffect p r m operand (l .stack)))))
     (choose (ltb code 8)
     (choose (eqb code 6)
@@ -100,4 +101,4 @@ effectOf p r m code operand l =
     (choose (eqb code 8) (after (jumpEffect p m (l .stack)) l) (after (bnzEffect p m operand (l .stack)) l))
     (choose (eqb code 10)
     (withStack l (callEffect p r m (l .stack)))
-    (after (jumpEffect p m (l .stack)) l))))
+    (choose (eqb code 11) (after (jumpEffect p m (l .stack)) l) (after (outputEffect p r m operand (l .stack)) l)))))

@@ -45,7 +45,7 @@ module _ (m : Machine) (stack : List ℤ) where
   abbrev pub ifValues : Inputs → Inputs
   ifValues found = choose (isValue second) (ifValue found) (halted 3)
 
-  -- Pop, Output, Jump, Bnz; Add, Sub; Call; Ret
+  -- Pop, Output, Jump, Bnz, OutputTo; Add, Sub; Call; Ret
   unfoldable pub oneValue : Inputs
   oneValue = ifValue (inputs 1 (first .label .0) bottom bottom)
 
@@ -86,4 +86,5 @@ findOf code m l =
     (choose (ltb code 8)
     (choose (eqb code 6) (loadCell m l) (storeCell m l))
     (choose (ltb code 10) (oneValue m (l .stack))
-    (choose (eqb code 10) (callValues m (l .stack)) (oneFrame m (l .stack)))))
+    (choose (eqb code 10) (callValues m (l .stack))
+    (choose (eqb code 11) (oneFrame m (l .stack)) (oneValue m (l .stack))))))

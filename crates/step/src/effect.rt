@@ -58,13 +58,13 @@ pub fn pop(place: Label, m: Machine) -> Stepped
     stack::carried(m.drop().following(place))
 }
 
-// Output: a line with the result label is handed back.
-pub fn output(place: Label, result: Label, m: Machine, stack: &[i64]) -> Stepped
-    ensures { λ r. ⌜ r ≡ outputEffect (place .0) (result .0) m (now (stack .entry)) ⌝ }
+// Output and OutputTo: a line on a page with the result label is handed back.
+pub fn output(place: Label, result: Label, m: Machine, page: i64, stack: &[i64]) -> Stepped
+    ensures { λ r. ⌜ r ≡ outputEffect (place .0) (result .0) m page (now (stack .entry)) ⌝ }
 {
     let depth = m.depth;
     let a = stack::look(stack, depth, 0);
-    stack::printing(m.drop().following(place), a.number, result)
+    stack::printing(m.drop().following(place), page, a.number, result)
 }
 
 // Push: the operand has the result label. A full stack is stop 7.
@@ -174,7 +174,7 @@ pub fn effect(
             if code == 3 {
                 return pop(place, m);
             }
-            return output(place, result, m, stack);
+            return output(place, result, m, 0, stack);
         }
         return push(place, result, m, operand, stack);
     }
@@ -193,5 +193,8 @@ pub fn effect(
     if code == 10 {
         return call(place, result, m, stack);
     }
-    jump(place, m, stack)
+    if code == 11 {
+        return jump(place, m, stack);
+    }
+    output(place, result, m, operand, stack)
 }

@@ -49,7 +49,7 @@ pub fn none() -> Inputs
     found(0, Label::EMPTY, Label::EMPTY, Label::EMPTY)
 }
 
-// Pop, Output, Jump and Bnz: a value, else stop 3.
+// Pop, Output, Jump, Bnz and OutputTo: a value, else stop 3.
 pub fn one_value(m: Machine, stack: &[i64]) -> Inputs
     ensures { λ r. ⌜ r ≡ oneValue m (now (stack .entry)) ⌝ }
 {
@@ -161,5 +161,8 @@ pub fn find(code: u64, m: Machine, stack: &[i64], values: &[i64], labels: &[i64]
     if code == 10 {
         return call_values(m, stack);
     }
-    one_frame(m, stack)
+    if code == 11 {
+        return one_frame(m, stack);
+    }
+    one_value(m, stack)
 }

@@ -4,7 +4,7 @@ use mathlib.Core.Path.{_≡_, refl, sym, ap, _∙_}
 use mathlib.Core.Bool.{Bool, true, false}
 use mathlib.Core.List.{List}
 use mathlib.Core.Option.{Option, none, some}
-use Prim.Native.Nat.{ℕ, _≤_}
+use Prim.Native.Nat.{ℕ, _<_}
 use native.Mathlib.Omega.{arith}
 use lib.IntN.{ℤ}
 use lib.Dec.{leb}
@@ -16,19 +16,21 @@ use Rattle.label.specs.declared.Stored.{Stored}
 use Rattle.label.specs.declared.Stored.the-variants as Stored
 use Rattle.label.specs.Word.{stored}
 use Rattle.program.specs.declared.Refusal.{Refusal}
+use Rattle.program.specs.declared.Operand.{Operand}
 use Rattle.program.specs.declared.Shape.the-variants as Shape
 use Rattle.program.specs.Fetch.{shapeOf}
-use Rattle.program.specs.Command.{Opcode, opcodeOf, supplies}
-use Rattle.program.proofs.Codes.{codeOf-opcodeOf, code-least, code-most}
+use Rattle.program.specs.Command.{Opcode, opcodeOf, supplies, ruleNumber}
 use Rattle.machine.specs.Rule as Rules
 use Rattle.tables.specs.declared.Labels.{Labels}
+use Rattle.tables.specs.declared.Verdict.{Verdict}
 use Rattle.tables.specs.declared.Checked.the-variants as Checked
 use Rattle.tables.specs.declared.row.Found.{Found}
 use Rattle.tables.specs.declared.row.Found.the-variants as Found
 use Rattle.policy.specs.Evaluate.{evaluate}
 use Rattle.policy.specs.Read.{ruleCount, ReadTable, refused, table}
 use Rattle.tables.specs.Value.{inputIf, keyOf}
-use Rattle.tables.specs.Ask.{verdictOf, checkAnswer, ask}
+use Rattle.tables.specs.Ask.{verdictOf, checkAnswer, ask, RuleSays}
+use Rattle.policy.proofs.Ruled.{rule-few}
 use Rattle.policy.specs.Row.{isMark, emptyRow, inputOf, presentOf, missingIf, labelOption, given, word, rowKey, agrees, acceptedRow}
 use Rattle.policy.specs.Row.{rowAnswer}
 use Rattle.tables.specs.RowCode.{markIf, inputStored, labelsFrom, rowLabels, verdictAgrees, rowIn}
@@ -86,12 +88,11 @@ verdict-agrees : (v : Rules.Verdict) (p r : ℤ) → verdictAgrees (verdictOf v)
 verdict-agrees Rules.denied p r = refl
 verdict-agrees (Rules.allowed q t) p r = refl
 
--- a command that has a shape has a rule
-pub shape-rule : (n : ℕ) (x : Option Opcode) (w k : ℕ) (has : Bool) → opcodeOf n ≡ x → shapeOf x ≡ Shape.Of w k has
-    → (1 ≤ n) × (n ≤ ruleCount)
-shape-rule n none w k has d e = never (cc)
-shape-rule n (some o) w k has d e =
-    let c = codeOf-opcodeOf n o d in (omega (arith, code-least o, c), omega (arith, code-most o, c))
+-- a command that has a shape is under a rule
+pub shape-rule : (x : Option Opcode) {w : Operand} {n : ℕ} {has : Bool} {number : ℕ} → shapeOf x ≡ Shape.Of w n has number
+    → number < ruleCount
+shape-rule none e = never (cc)
+shape-rule (some o) {number} e = let d : ruleNumber o ≡ number = cc in rw d at (rule-few o)
 
 module _ (t : ReadTable) (ws : List ℤ) where
   pub row-unknown : (x : Option Opcode) → shapeOf x ≡ Shape.Unknown → false ≡ rowIn t x ws
@@ -102,10 +103,10 @@ module _ (t : ReadTable) (ws : List ℤ) where
       by-table (table t) = refl
   row-unknown (some o) e = absurd (let z : _≡_ {A = ℕ} 0 1 = cc in omega arith)
 
-  pub row-nothing : (x : Option Opcode) (w n : ℕ) (has : Bool) → shapeOf x ≡ Shape.Of w n has → rowLabels n ws ≡ Found.Nothing
-      → false ≡ rowIn t x ws
-  row-nothing none w n has e f = absurd (let z : _≡_ {A = ℕ} 0 1 = cc in omega arith)
-  row-nothing (some o) w n has e f = by-table t
+  pub row-nothing : (x : Option Opcode) {w : Operand} {n : ℕ} {has : Bool} {number : ℕ} → shapeOf x ≡ Shape.Of w n has number
+      → rowLabels n ws ≡ Found.Nothing → false ≡ rowIn t x ws
+  row-nothing none e f = absurd (let z : _≡_ {A = ℕ} 0 1 = cc in omega arith)
+  row-nothing (some o) {n} e f = by-table t
     where
       none-is : rowKey o ws ≡ none
       none-is = row-key o ws ∙ ap (keyOption o (supplies o)) (ap (λ m. rowLabels m ws) (let d : supplies o ≡ n = cc in d) ∙ f)
@@ -114,15 +115,16 @@ module _ (t : ReadTable) (ws : List ℤ) where
       by-table (refused r) = refl
       by-table (table t) = rw none-is
 
-  pub row-found : (x : Option Opcode) (w n : ℕ) (has : Bool) (ls : Labels) → shapeOf x ≡ Shape.Of w n has → rowLabels n ws ≡ Found.Of ls
-      → verdictAgrees (verdictOf (ask t x ls)) (word ws 5) (word ws 6) ≡ rowIn t x ws
-  row-found none w n has ls e f = absurd (let z : _≡_ {A = ℕ} 0 1 = cc in omega arith)
-  row-found (some o) w n has ls e f = by-table t
+  pub row-found : (x : Option Opcode) {w : Operand} {n : ℕ} {has : Bool} {number : ℕ} (ls : Labels) (v : Verdict)
+      → shapeOf x ≡ Shape.Of w n has number → rowLabels n ws ≡ Found.Of ls → RuleSays t number ls v
+      → verdictAgrees v (word ws 5) (word ws 6) ≡ rowIn t x ws
+  row-found none ls v e f says = absurd (let z : _≡_ {A = ℕ} 0 1 = cc in omega arith)
+  row-found (some o) {n} ls v e f says = ap (λ v. verdictAgrees v (word ws 5) (word ws 6)) (says o (cc)) ∙ by-table t
     where
       key-is : rowKey o ws ≡ some (keyOf o (supplies o) ls)
       key-is = row-key o ws ∙ ap (keyOption o (supplies o)) (ap (λ m. rowLabels m ws) (let d : supplies o ≡ n = cc in d) ∙ f)
 
-      by-table : (t : ReadTable) → verdictAgrees (verdictOf (ask t (some o) ls)) (word ws 5) (word ws 6) ≡ rowIn t (some o) ws
+      by-table : (t : ReadTable) → verdictAgrees (verdictOf (ask t o ls)) (word ws 5) (word ws 6) ≡ rowIn t (some o) ws
       by-table (refused r) = refl
       by-table (table t) = rw key-is (verdict-agrees (evaluate t (keyOf o (supplies o) ls)) (word ws 5) (word ws 6))
 

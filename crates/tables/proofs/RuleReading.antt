@@ -8,6 +8,7 @@ use Prim.Native.Nat.{ℕ}
 use native.Mathlib.Omega.{arith}
 use Rattle.label.specs.declared.Label.{Label}
 use Rattle.program.specs.Command.{Opcode, supplies, hasResult}
+use Rattle.program.specs.declared.Operand.{Operand}
 use Rattle.program.specs.declared.Shape.the-variants as Shape
 use Rattle.program.specs.Fetch.{shapeOf}
 use Rattle.machine.specs.Rule.{Key, allowedIf}
@@ -21,8 +22,8 @@ use Rattle.tables.specs.declared.RuleRead.the-variants as RuleRead
 use Rattle.policy.specs.Expression.{LabelExpr, Condition}
 use Rattle.policy.specs.Evaluate.{evalLabel, evalCondition}
 use Rattle.policy.specs.Read.{Read, fault, found, andThen, readLabel, readCondition, depthLimit, resultIf, readRuleWith}
-use Rattle.tables.specs.Value.{labelWith, keyOf, labelRead, conditionRead}
-use Rattle.tables.specs.Ask.{verdictOf, ruleRead, codeRead}
+use Rattle.tables.specs.Value.{labelWith, labelRead, conditionRead}
+use Rattle.tables.specs.Ask.{verdictOf, ruleRead, RuleAt, CodeAt}
 
 abbrev byResult : Bool → Label → LabelRead → RuleRead
 byResult c p (LabelRead.Fault q) = RuleRead.Fault q
@@ -88,14 +89,14 @@ module _ (k : Key) (n : ℕ) (has : Bool) (s : List ℕ) (at : ℕ) where
 
 -- the rule with a code, by the shape of its command
 module _ (ls : Labels) (s : List ℕ) (at : ℕ) where
-  pub code-known : (x : Option Opcode) (w n : ℕ) (has : Bool) → shapeOf x ≡ Shape.Of w n has → (r : RuleRead)
-      → ((o : Opcode) → r ≡ ruleRead (keyOf o n ls) (readRuleWith n has s at)) → r ≡ codeRead x ls s at
-  code-known none w n has e r h = absurd (let z : _≡_ {A = ℕ} 0 1 = cc in omega arith)
-  code-known (some o) w n has e r h =
+  pub code-known : (x : Option Opcode) {w : Operand} {n : ℕ} {has : Bool} {number : ℕ} → shapeOf x ≡ Shape.Of w n has number
+      → (r : RuleRead) → RuleAt n has ls s at r → CodeAt x ls s at r
+  code-known none e r h = absurd (let z : _≡_ {A = ℕ} 0 1 = cc in omega arith)
+  code-known (some o) {n} {has} e r h =
       let d : n ≡ supplies o = cc in
       let f : has ≡ hasResult o = cc in
-      rw (d, f) at (h o)
+      λ q. rw (d, f) at (h q)
 
-  pub code-unknown : (x : Option Opcode) → shapeOf x ≡ Shape.Unknown → RuleRead.Fault at ≡ codeRead x ls s at
+  pub code-unknown : (x : Option Opcode) → shapeOf x ≡ Shape.Unknown → CodeAt x ls s at (RuleRead.Fault at)
   code-unknown none e = refl
   code-unknown (some o) e = absurd (let z : _≡_ {A = ℕ} 0 1 = cc in omega arith)

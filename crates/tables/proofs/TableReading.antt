@@ -1,17 +1,17 @@
 -- Reading a table rule by rule, as the code does it: what is left to read, after what was passed, gives the whole table's answer.
 -- Assumes nothing.
-use mathlib.Core.Path.{_≡_, refl, sym, ap, subst, _∙_}
+use mathlib.Core.Path.{_≡_, refl, sym, ap, _∙_}
 use mathlib.Core.Bool.{Bool, true, false}
 use mathlib.Core.List.{List, [], _∷_}
 use mathlib.Core.Option.{some}
 use Prim.Native.Nat.{ℕ, zero, suc, _+_, _<_, _≤_}
 use native.Mathlib.Omega.{arith}
-use native.Mathlib.Numerals.{add-one}
 use lib.Dec.{ltb}
 use lib.ListN.{length, drop, getElem?}
 use borrow.Author.Tests.{lt-ltb, le-ltb, le-leb, lt-leb}
-use Rattle.program.specs.Command.{Opcode, opcodes, opcodeOf, supplies}
+use Rattle.program.specs.Command.{Opcode, ruled, opcodeOf, supplies}
 use Rattle.program.specs.Decode.{refusal}
+use Rattle.word.proofs.Bool.{never}
 use Rattle.tables.specs.declared.Labels.{Labels}
 use Rattle.tables.specs.declared.Verdict.{Verdict}
 use Rattle.tables.specs.declared.Checked.{Checked}
@@ -20,17 +20,18 @@ use Rattle.tables.specs.declared.RuleRead.{RuleRead}
 use Rattle.tables.specs.declared.RuleRead.the-variants as RuleRead
 use Rattle.policy.specs.Expression.{Rule, Table}
 use Rattle.policy.specs.Evaluate.{evalRule}
+use Rattle.policy.proofs.Ruled.{ruled-code}
 use Rattle.policy.specs.Read.{Read, fault, found, prepend, ruleCount, readRule, readRules, whole, wholeIf, tableLimit, readTable}
 use Rattle.tables.specs.Value.{keyOf}
-use Rattle.tables.specs.Ask.{verdictOf, ruleRead, codeRead, checkAnswer}
+use Rattle.tables.specs.Ask.{verdictOf, ruleRead, CodeAt, checkAnswer}
 
 -- the element at an index, and those after it
-record Element {A : Type 0} (l : List A) (i : ℕ) : Type 0 where
-  here : A
-  at : getElem? l i ≡ some here
-  rest : drop i l ≡ here ∷ drop (i + 1) l
+pub record Element {A : Type 0} (l : List A) (i : ℕ) : Type 0 where
+  pub here : A
+  pub at : getElem? l i ≡ some here
+  pub rest : drop i l ≡ here ∷ drop (i + 1) l
 
-element : {A : Type 0} (l : List A) (i : ℕ) → i < length l → Element l i
+pub element : {A : Type 0} (l : List A) (i : ℕ) → i < length l → Element l i
 element [] i h = absurd (omega arith)
 element (x ∷ l) zero h = record { here = x; at = refl; rest = refl }
 element (x ∷ l) (suc i) h =
@@ -38,40 +39,35 @@ element (x ∷ l) (suc i) h =
     let d : suc i + 1 ≡ suc (i + 1) = omega arith in
     record { here = e .here; at = e .at; rest = rw d (e .rest) }
 
--- the command with code i + 1, its rule, and what reading says of the rules from there on
+-- the rule with number i, which belongs to the command with code i + 1: what it says to whichever command asks, and what reading says of
+-- the rules from there on
 pub record Next (ls : Labels) (s : List ℕ) (i at : ℕ) (v : Verdict) (next : ℕ) : Type 0 where
-  pub opcode : Opcode
-  pub code : opcodeOf (i + 1) ≡ some opcode
+  pub owner : Opcode
+  pub owns : getElem? ruled i ≡ some owner
   pub rule : Rule
-  pub said : v ≡ verdictOf (evalRule (some rule) (keyOf opcode (supplies opcode) ls))
-  pub rules : readRules (drop i opcodes) s at ≡ prepend rule (readRules (drop (i + 1) opcodes) s next)
+  pub said : (o : Opcode) → v ≡ verdictOf (evalRule (some rule) (keyOf o (supplies owner) ls))
+  pub rules : readRules (drop i ruled) s at ≡ prepend rule (readRules (drop (i + 1) ruled) s next)
 
-abbrev pub Reads : Labels → List ℕ → (i at : ℕ) → RuleRead → Type 0
-Reads ls s i at (RuleRead.Fault p) = readRules (drop i opcodes) s at ≡ fault p
+abbrev Reads : Labels → List ℕ → (i at : ℕ) → RuleRead → Type 0
+Reads ls s i at (RuleRead.Fault p) = readRules (drop i ruled) s at ≡ fault p
 Reads ls s i at (RuleRead.Is v next) = Next ls s i at v next
 
-opcodeOf-next : (i : ℕ) (o : Opcode) → getElem? opcodes i ≡ some o → opcodeOf (i + 1) ≡ some o
-unfolding opcodeOf
-opcodeOf-next i o e = rw (add-one i) e
-
 module _ (ls : Labels) (s : List ℕ) (i at : ℕ) (h : i < ruleCount) where
-  reads-rule : (e : Element opcodes i) (r : Read Rule) → readRule (e .here) s at ≡ r
-      → Reads ls s i at (ruleRead (keyOf (e .here) (supplies (e .here)) ls) r)
+  reads-rule : (e : Element ruled i) (x : Read Rule) → readRule (e .here) s at ≡ x → (r : RuleRead)
+      → ((o : Opcode) → r ≡ ruleRead (keyOf o (supplies (e .here)) ls) x) → Reads ls s i at r
   unfolding readRules
-  reads-rule e (fault p) d = rw (e .rest, d)
-  reads-rule e (found r next) d =
-      record {
-        opcode = e .here;
-        code = opcodeOf-next i (e .here) (e .at);
-        rule = r;
-        said = refl;
-        rules = rw (e .rest, d);
-      }
+  reads-rule e (fault p) d (RuleRead.Fault q) f = let g = f (e .here) in let k : p ≡ q = cc in rw (e .rest, d, k)
+  reads-rule e (fault p) d (RuleRead.Is v next) f = let g = f (e .here) in never (cc)
+  reads-rule e (found x end) d (RuleRead.Fault q) f = let g = f (e .here) in never (cc)
+  reads-rule e (found x end) d (RuleRead.Is v next) f =
+      let g = f (e .here) in
+      let k : end ≡ next = cc in
+      record { owner = e .here; owns = e .at; rule = x; said = λ o. let g = f o in cc; rules = rw (e .rest, d, k) }
 
-  pub reads : Reads ls s i at (codeRead (opcodeOf (i + 1)) ls s at)
-  reads =
-      let e = element opcodes i h in
-      rw (opcodeOf-next i (e .here) (e .at)) (reads-rule e (readRule (e .here) s at) refl)
+  pub reads : (r : RuleRead) → CodeAt (opcodeOf (i + 1)) ls s at r → Reads ls s i at r
+  reads r f =
+      let e = element ruled i h in
+      reads-rule e (readRule (e .here) s at) refl r (rw (ruled-code i (e .here) (e .at)) at f)
 
 -- ════════════════════════════════════════════════════════════════════════════════════════════
 -- Checking
@@ -88,7 +84,7 @@ whole-prepend n r (found rs end) = left-over (ltb end n)
 
 pub record Checking (s : List ℕ) (i at : ℕ) : Type 0 where
   pub few : i ≤ ruleCount
-  pub answer : checkAnswer (whole (length s) (readRules (drop i opcodes) s at)) ≡ checkAnswer (readTable s)
+  pub answer : checkAnswer (whole (length s) (readRules (drop i ruled) s at)) ≡ checkAnswer (readTable s)
 
 pub checking-limit : (s : List ℕ) → tableLimit < length s → Checked.Refused (refusal 6 tableLimit) ≡ checkAnswer (readTable s)
 unfolding readTable
@@ -100,19 +96,17 @@ checking-start s h = record { few = omega arith; answer = rw (le-leb (length s) 
 
 module _ (s : List ℕ) (i at : ℕ) (c : Checking s i at) where
   module _ (ls : Labels) (h : i < ruleCount) where
-    pub checking-fault : (p : ℕ) → codeRead (opcodeOf (i + 1)) ls s at ≡ RuleRead.Fault p
+    pub checking-fault : (p : ℕ) → CodeAt (opcodeOf (i + 1)) ls s at (RuleRead.Fault p)
         → Checked.Refused (refusal 6 p) ≡ checkAnswer (readTable s)
-    checking-fault p e =
-        let d : readRules (drop i opcodes) s at ≡ fault p = subst (Reads ls s i at) e (reads ls s i at h) in
-        ap (λ x. checkAnswer (whole (length s) x)) (sym d) ∙ c .answer
+    checking-fault p f = ap (λ x. checkAnswer (whole (length s) x)) (sym (reads ls s i at h (RuleRead.Fault p) f)) ∙ c .answer
 
-    pub checking-next : (v : Verdict) (next : ℕ) → codeRead (opcodeOf (i + 1)) ls s at ≡ RuleRead.Is v next → Checking s (i + 1) next
-    checking-next v next e =
-        let n : Next ls s i at v next = subst (Reads ls s i at) e (reads ls s i at h) in
+    pub checking-next : (v : Verdict) (next : ℕ) → CodeAt (opcodeOf (i + 1)) ls s at (RuleRead.Is v next) → Checking s (i + 1) next
+    checking-next v next f =
+        let n = reads ls s i at h (RuleRead.Is v next) f in
         record {
           few = omega arith;
           answer =
-              sym (whole-prepend (length s) (n .rule) (readRules (drop (i + 1) opcodes) s next))
+              sym (whole-prepend (length s) (n .rule) (readRules (drop (i + 1) ruled) s next))
               ∙ ap (λ x. checkAnswer (whole (length s) x)) (sym (n .rules))
               ∙ c .answer;
         }

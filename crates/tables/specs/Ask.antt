@@ -4,7 +4,7 @@ use mathlib.Core.Path.{_≡_}
 use mathlib.Core.Bool.{Bool}
 use mathlib.Core.List.{List}
 use mathlib.Core.Option.{Option, none, some}
-use Rattle.program.specs.Command.{Opcode, supplies}
+use Rattle.program.specs.Command.{Opcode, supplies, hasResult, ruleNumber}
 use Rattle.machine.specs.Rule as Rules
 use Rattle.tables.specs.declared.Labels.{Labels}
 use Rattle.tables.specs.declared.Verdict.{Verdict}
@@ -15,7 +15,7 @@ use Rattle.tables.specs.declared.RuleRead.{RuleRead}
 use Rattle.tables.specs.declared.RuleRead.the-variants as RuleRead
 use Rattle.policy.specs.Expression.{Rule}
 use Rattle.policy.specs.Evaluate.{evalRule, evaluate}
-use Rattle.policy.specs.Read.{Read, fault, found, readRuleWith, readRule, ReadTable, refused, table}
+use Rattle.policy.specs.Read.{Read, fault, found, readRuleWith, ReadTable, refused, table}
 use Rattle.tables.specs.Value.{labelWith, keyOf}
 
 abbrev pub verdictOf : Rules.Verdict → Verdict
@@ -31,9 +31,9 @@ abbrev pub RuleAt : (n : ℕ) (has : Bool) → Labels → List ℕ → (at : ℕ
 RuleAt n has ls bytes at r = (o : Opcode) → r ≡ ruleRead (keyOf o n ls) (readRuleWith n has bytes at)
 
 -- the rule of the command with a code
-abbrev pub codeRead : Option Opcode → Labels → List ℕ → (at : ℕ) → RuleRead
-codeRead none ls bytes at = RuleRead.Fault at
-codeRead (some o) ls bytes at = ruleRead (keyOf o (supplies o) ls) (readRule o bytes at)
+abbrev pub CodeAt : Option Opcode → Labels → List ℕ → (at : ℕ) → RuleRead → Type 0
+CodeAt none ls bytes at r = r ≡ RuleRead.Fault at
+CodeAt (some o) ls bytes at r = RuleAt (supplies o) (hasResult o) ls bytes at r
 
 -- check 6: the table is accepted, or the refusal
 abbrev pub checkAnswer : ReadTable → Checked
@@ -44,8 +44,11 @@ abbrev pub Readable : ReadTable → Type 0
 Readable (refused r) = ⊥
 Readable (table t) = Unit {0}
 
--- what a table says for a command and labels: nothing is allowed by what is no table, or to what is no command
-abbrev pub ask : ReadTable → Option Opcode → Labels → Rules.Verdict
+-- what a table says for a command and labels: nothing is allowed by what is no table
+abbrev pub ask : ReadTable → Opcode → Labels → Rules.Verdict
 ask (refused r) o ls = Rules.denied
-ask (table t) none ls = Rules.denied
-ask (table t) (some o) ls = evaluate t (keyOf o (supplies o) ls)
+ask (table t) o ls = evaluate t (keyOf o (supplies o) ls)
+
+-- what its rule with a number says, whichever command under that rule asks
+abbrev pub RuleSays : ReadTable → (rule : ℕ) → Labels → Verdict → Type 0
+RuleSays t n ls v = (o : Opcode) → ruleNumber o ≡ n → v ≡ verdictOf (ask t o ls)

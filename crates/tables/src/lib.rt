@@ -4,12 +4,12 @@ pub mod expression;
 pub mod row;
 
 ghost use mathlib.Core.Path.{_≡_};
-ghost use Prim.Native.Nat.{_≤_};
+ghost use Prim.Native.Nat.{_<_};
 ghost use Rattle.program.specs.Command.{opcodeOf};
 ghost use Rattle.machine.specs.Rule.{allowedIf};
 ghost use Rattle.policy.specs.Read.{ruleCount, readTable};
 ghost use Rattle.tables.specs.Value.{ResultAt};
-ghost use Rattle.tables.specs.Ask.{verdictOf, RuleAt, codeRead, checkAnswer, Readable, ask};
+ghost use Rattle.tables.specs.Ask.{verdictOf, RuleAt, CodeAt, checkAnswer, Readable, RuleSays};
 use expression::ConditionRead;
 use expression::LabelRead;
 use expression::read_condition;
@@ -104,16 +104,17 @@ fn read_rule_with(
 
 // The rule of the command with a code.
 fn read_rule(bytes: &[u8], at: usize, code: u64, labels: Labels) -> RuleRead
-    ensures { λ r. ⌜ r ≡ codeRead (opcodeOf code) labels (now (bytes .entry)) at ⌝ }
+    ensures { λ r. ⌜ CodeAt (opcodeOf code) labels (now (bytes .entry)) at r ⌝ }
 {
     let shape = shape_of(code);
     match shape {
-        Shape::Of(_, supplied, result) => read_rule_with(bytes, at, supplied, result, labels),
+        Shape::Of(_, supplied, result, _) => read_rule_with(bytes, at, supplied, result, labels),
         Shape::Unknown => RuleRead::Fault(at),
     }
 }
 
-// Check 6 of document 01 over any bytes. Any labels do, as the verdicts are not looked at.
+// Check 6 of document 01 over any bytes. The rule with number i belongs to the command with the code i + 1. Any labels do, as the
+// verdicts are not looked at.
 pub fn check_table(bytes: &[u8]) -> Checked
     ensures { λ r. ⌜ r ≡ checkAnswer (readTable (now (bytes .entry))) ⌝ }
 {
@@ -156,14 +157,14 @@ pub fn check_table(bytes: &[u8]) -> Checked
     }
 }
 
-// The rule of a command in bytes that are a table: the rules before it are passed over.
-fn rule_of(bytes: &[u8], code: u64, labels: Labels) -> Verdict
-    requires { ⌜ Readable (readTable (now bytes)) × (1 ≤ code) × (code ≤ ruleCount) ⌝ }
-    ensures { λ r. ⌜ r ≡ verdictOf (ask (readTable (now (bytes .entry))) (opcodeOf code) labels) ⌝ }
+// The rule with a number in bytes that are a table: the rules before it are passed over.
+fn rule_of(bytes: &[u8], number: u64, labels: Labels) -> Verdict
+    requires { ⌜ Readable (readTable (now bytes)) × (number < ruleCount) ⌝ }
+    ensures { λ r. ⌜ RuleSays (readTable (now (bytes .entry))) number labels r ⌝ }
 {
     let mut at: usize = 0;
     let mut i: u64 = 0;
-    while i + 1 < code {
+    while i < number {
         let rule = read_rule(bytes, at, i + 1, labels);
         match rule {
             RuleRead::Is(_, next) => {
@@ -173,7 +174,7 @@ fn rule_of(bytes: &[u8], code: u64, labels: Labels) -> Verdict
             RuleRead::Fault(_) => return Verdict::Denied,
         }
     }
-    let rule = read_rule(bytes, at, code, labels);
+    let rule = read_rule(bytes, at, i + 1, labels);
     match rule {
         RuleRead::Is(verdict, _) => verdict,
         RuleRead::Fault(_) => Verdict::Denied,

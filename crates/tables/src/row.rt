@@ -111,12 +111,12 @@ fn allowed_row(bytes: &[u8], code: u64, cache: Cache) -> bool
     let shape = program::shape_of(code);
     match shape {
         Shape::Unknown => false,
-        Shape::Of(_, supplied, _) => {
+        Shape::Of(_, supplied, _, rule) => {
             let found = row_labels(cache, supplied);
             match found {
                 Found::Nothing => false,
                 Found::Of(labels) => agrees(
-                    crate::rule_of(bytes, code, labels),
+                    crate::rule_of(bytes, rule as u64, labels),
                     cache.get(5),
                     cache.get(6),
                 ),

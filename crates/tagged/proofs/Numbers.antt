@@ -8,7 +8,7 @@ use native.Mathlib.Omega.{arith}
 use lib.IntN.{ℤ}
 use lib.ListN.{length}
 use lib.Dec.{leb, ltb}
-use Rattle.program.specs.Command.{opcodes}
+use Rattle.program.specs.Command.{ruled}
 use Rattle.program.specs.declared.Refusal.{Refusal}
 use Rattle.program.specs.Decode.{refusal}
 use Rattle.engine.specs.declared.Answer.the-variants as Answer
@@ -37,7 +37,7 @@ rules-numbered bytes = limit (leb (length bytes) tableLimit)
     rules (found t end) = over (ltb end (length bytes)) t end
 
     limit : (b : Bool) → LimitNumbered (rulesLimit (tableIf b bytes))
-    limit true = rules (readRules opcodes bytes 0)
+    limit true = rules (readRules ruled bytes 0)
     limit false = broken {r = refusal 6 tableLimit} (omega arith)
 
 own-numbered : (bytes : List ℕ) (row : List ℤ) (space : ℕ) → OwnNumbered (ownOf (readTable bytes) row space)

@@ -21,8 +21,8 @@ pub struct Tagged {
     pub kernel: u64,
 }
 
-// Checks everything, and then runs the sheet on the lent cells to one named stop, under the rules of the table. A refusal, of 1 to 9 with
-// its place, leaves every lent run and the rule memory as they came. The run is that of reading the table directly, by a handler that never
+// Checks everything, and then runs the sheet on the lent cells to one named stop, under the rules of the table. A refusal, of 1 to 9 or 12
+// with its place, leaves every lent run and the rule memory as they came. The run is that of reading the table directly, by a handler that never
 // fails.
 pub fn execute(
     sheet: &[u8],
@@ -36,23 +36,24 @@ pub fn execute(
     numbers: &mut [i64],
     line_labels: &mut [i64],
     kinds: &mut [i64],
+    pages: &mut [i64],
     fuel: u64,
 ) -> Tagged
     ensures left { λ r. ⌜ left (endedBy r
         (memory (now (program .exit)) (lent (now (stack .exit)) (cells (now (values .exit)) (now (labels .exit))))
-        (output (now (numbers .exit)) (now («line_labels» .exit)) (now (kinds .exit)))))
+        (output (now (numbers .exit)) (now («line_labels» .exit)) (now (kinds .exit)) (now (pages .exit)))))
         (now (handler .exit))
         ≡ tagged (now (sheet .entry)) (now (table .entry)) (cache .words)
         (memory (now (program .entry)) (lent (now (stack .entry)) (cells (now (values .entry)) (now (labels .entry))))
-        (output (now (numbers .entry)) (now («line_labels» .entry)) (now (kinds .entry))))
+        (output (now (numbers .entry)) (now («line_labels» .entry)) (now (kinds .entry)) (now (pages .entry))))
         (now (handler .entry)) fuel ⌝ }
     ensures rules { λ r. ⌜ Promises (now (sheet .entry)) (now (table .entry))
         (memory (now (program .entry)) (lent (now (stack .entry)) (cells (now (values .entry)) (now (labels .entry))))
-        (output (now (numbers .entry)) (now («line_labels» .entry)) (now (kinds .entry))))
+        (output (now (numbers .entry)) (now («line_labels» .entry)) (now (kinds .entry)) (now (pages .entry))))
         (now (handler .entry)) fuel
         (left (endedBy r
         (memory (now (program .exit)) (lent (now (stack .exit)) (cells (now (values .exit)) (now (labels .exit))))
-        (output (now (numbers .exit)) (now («line_labels» .exit)) (now (kinds .exit)))))
+        (output (now (numbers .exit)) (now («line_labels» .exit)) (now (kinds .exit)) (now (pages .exit)))))
         (now (handler .exit))) ⌝ }
 {
     let rules = start::rules(table, cache, handler.len());
@@ -74,7 +75,7 @@ pub fn execute(
         Checked::Accepted(count) => {
             program::write(sheet, program);
             translator::write(table, handler);
-            let room = engine::room(numbers.len(), line_labels.len(), kinds.len());
+            let room = engine::room(numbers.len(), line_labels.len(), kinds.len(), pages.len());
             let end = run::go(
                 count,
                 room,
@@ -89,6 +90,7 @@ pub fn execute(
                 numbers,
                 line_labels,
                 kinds,
+                pages,
             );
             let ran = end.ran;
             let row = end.cache;

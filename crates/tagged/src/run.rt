@@ -126,15 +126,16 @@ pub(crate) fn go(
     numbers: &mut [i64],
     line_labels: &mut [i64],
     kinds: &mut [i64],
+    pages: &mut [i64],
 ) -> Left
     requires { ⌜ (count ≤ 4096) × (size ≤ 8192) × (fuel ≤ 1000000) ⌝ }
     ensures { λ r. ⌜ done (r .ran) (tag (r .cache .words) (r .faults) (r .kernel))
         (lent (now (stack .exit)) (cells (now (values .exit)) (now (labels .exit))))
-        (output (now (numbers .exit)) (now («line_labels» .exit)) (now (kinds .exit)))
+        (output (now (numbers .exit)) (now («line_labels» .exit)) (now (kinds .exit)) (now (pages .exit)))
         ≡ loopOf (tagWords (handleSpace (now (space .entry)) size)) count room (now (program .entry)) fuel 0 started
         (tag (memory .words) 0 0)
         (lent (now (stack .entry)) (cells (now (values .entry)) (now (labels .entry))))
-        (output (now (numbers .entry)) (now («line_labels» .entry)) (now (kinds .entry))) ⌝ }
+        (output (now (numbers .entry)) (now («line_labels» .entry)) (now (kinds .entry)) (now (pages .entry))) ⌝ }
 {
     let mut m = Machine::start();
     let mut cache = memory;
@@ -149,7 +150,7 @@ pub(crate) fn go(
                 let operand = word::memory::at(program, 2 * i + 1);
                 let r = act(space, size, word, operand, m, cache, stack, values, labels);
                 let stepped = r.stepped;
-                let w = engine::emit(m, stepped, room, numbers, line_labels, kinds);
+                let w = engine::emit(m, stepped, room, numbers, line_labels, kinds, pages);
                 m = w.machine;
                 cache = r.cache;
                 faults += r.faults;
@@ -161,13 +162,13 @@ pub(crate) fn go(
                 steps += 1;
             }
             Index::Outside => {
-                let w = engine::end_or(m, count, 2, room, numbers, line_labels, kinds);
+                let w = engine::end_or(m, count, 2, room, numbers, line_labels, kinds, pages);
                 let machine = w.machine;
                 return ended(machine, w.stop, steps, cache, faults, kernel);
             }
         }
     }
-    let w = engine::end_or(m, count, 1, room, numbers, line_labels, kinds);
+    let w = engine::end_or(m, count, 1, room, numbers, line_labels, kinds, pages);
     let machine = w.machine;
     ended(machine, w.stop, steps, cache, faults, kernel)
 }

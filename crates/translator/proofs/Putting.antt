@@ -81,7 +81,7 @@ putCode-append p a b s =
     ∙ putAll-append (2 * p) (kernelWords a) (kernelWords b) s
     ∙ ap (λ n. putAll n (kernelWords b) (putAll (2 * p) (kernelWords a) s)) e
 
-pub putCode-comm : (p : ℕ) (a : List Instruction) (q : ℕ) (b : List Instruction) (s : List ℤ) → p + length a ≤ q
+putCode-comm : (p : ℕ) (a : List Instruction) (q : ℕ) (b : List Instruction) (s : List ℤ) → p + length a ≤ q
     → putCode q b (putCode p a s) ≡ putCode p a (putCode q b s)
 putCode-comm p a q b s h =
     putAll-comm (2 * p) (kernelWords a) (2 * q) (kernelWords b) s (omega (arith, kernelWords-length a))

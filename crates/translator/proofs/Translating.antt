@@ -2,7 +2,7 @@
 -- Assumes nothing.
 use mathlib.Core.Path.{_≡_, refl, sym, ap, subst, _∙_}
 use mathlib.Core.Bool.{Bool, true, false}
-use mathlib.Core.List.{List, [], _∷_, _++_, map}
+use mathlib.Core.List.{List, [], _∷_, map}
 use mathlib.Core.Option.{Option, none, some}
 use Prim.Native.Nat.{ℕ, zero, suc, _+_, _*_, _≤_}
 use native.Mathlib.Omega.{arith}
@@ -11,7 +11,7 @@ use lib.Dec.{leb, ltb, eqb}
 use lib.ListN.{length, getElem?}
 use borrow.Author.Tests.{eqb-true}
 use Rattle.word.specs.Lay.{laid}
-use Rattle.program.specs.Command.{Opcode, opcodes, supplies, hasResult}
+use Rattle.program.specs.Command.{Opcode, ruled, supplies, hasResult}
 use Rattle.program.specs.declared.Refusal.{Refusal}
 use Rattle.tables.specs.declared.Checked.the-variants as Checked
 use Rattle.policy.specs.declared.Token.{Token}
@@ -26,7 +26,7 @@ use Rattle.policy.specs.Read.{ReadTable, refused, table, wholeIf, whole, tableL
 use Rattle.handler.specs.Kernel.{Instruction}
 use Rattle.handler.specs.Space.{kernelWords}
 use Rattle.handler.specs.Translate.{compileLabel, compileCondition, compileAnswer, compileIf, guarded, compileRule}
-use Rattle.handler.specs.Translate.{slots, concat, dispatch, translate, handlerOf}
+use Rattle.handler.specs.Translate.{handlerWith, translate, handlerOf}
 use Rattle.handler.specs.Claim.{Handles}
 use Rattle.handler.proofs.Sound.{read-handles}
 use Rattle.translator.specs.Emit.{Piece, piece, joinCode, flowsCode, eitherCode, partOf, labelPiece, labelCode}
@@ -240,14 +240,14 @@ module _ (s : List ℕ) where
     where
       over : (b : Bool) (t : Table) (end : ℕ) → AreRules (found t end) (bodiesAt ruleCount s 0) → Translates (wholeIf b t end) (tableCode s)
       over true t end e = tt
-      over false t end e = ap (λ (bs : List (List Instruction)). dispatch ++ slots 0 bs ++ concat bs) e
+      over false t end e = ap handlerWith e
 
       rules : (x : Read Table) → AreRules x (bodiesAt ruleCount s 0) → Translates (whole (length s) x) (tableCode s)
       rules (fault p) e = tt
       rules (found t end) e = over (ltb end (length s)) t end e
 
       limit : (b : Bool) → Translates (tableIf b s) (tableCode s)
-      limit true = rules (readRules opcodes s 0) (rules-are opcodes 0)
+      limit true = rules (readRules ruled s 0) (rules-are ruled 0)
       limit false = tt
 
 -- of bytes that are a table, what is read is the handler

@@ -1,10 +1,11 @@
 -- What the translator in code reads and stores. It checks a table's bytes first and then reads them without a fault, so that these
--- definitions have no side condition; proofs/Pieces.antt shows that of a table's bytes they give its translation.
-use Prim.Native.Nat.{ℕ, zero, suc, _+_, _-_, _*_}
+-- definitions have no side condition; proofs/Translating.antt shows that of a table's bytes they give its translation.
+use Prim.Native.Nat.{ℕ, zero, suc, _+_, _-_, _*_, _^_, _<_, _≤_}
 use mathlib.Core.Path.{_≡_}
 use mathlib.Core.List.{List, [], _∷_, _++_}
 use lib.IntN.{ℤ, pos, negsuc}
-use lib.ListN.{length, set}
+use lib.ListN.{length, set, getD}
+use Rattle.program.specs.Command.{Opcode, opcodes, ruleNumber}
 use Rattle.policy.specs.declared.Token.{Token}
 use Rattle.policy.specs.declared.Token.the-variants as Token
 use Rattle.tables.specs.declared.expression.Test.{Test}
@@ -16,7 +17,7 @@ use Rattle.translator.specs.declared.Part.{Part}
 use Rattle.translator.specs.declared.Part.the-variants as Part
 use Rattle.translator.specs.declared.Mark.{Mark}
 use Rattle.handler.specs.Kernel.{Instruction, Sub, Or, Load, Store, Dup, Jump, Ret, Push, Bnz}
-use Rattle.handler.specs.Translate.{concat, slots, dispatch}
+use Rattle.handler.specs.Translate.{dispatch, handlerWith}
 use Rattle.handler.specs.Space.{kernelWords}
 
 -- ════════════════════════════════════════════════════════════════════════════════════════════
@@ -114,7 +115,7 @@ bodiesAt zero bytes at = []
 bodiesAt (suc count) bytes at = let r = ruleCode bytes at in r .code ∷ bodiesAt count bytes (r .next)
 
 unfoldable pub tableCode : List ℕ → List Instruction
-tableCode bytes = let bodies = bodiesAt ruleCount bytes 0 in dispatch ++ slots 0 bodies ++ concat bodies
+tableCode bytes = handlerWith (bodiesAt ruleCount bytes 0)
 
 -- ════════════════════════════════════════════════════════════════════════════════════════════
 -- Storing them
@@ -139,17 +140,23 @@ pub record Emits (p : Piece) (start : ℕ) (before : List ℤ) (r : Mark) (after
 abbrev pub Emitted : (ℕ → Piece) → Mark → List ℤ → Mark → List ℤ → Type 0
 Emitted code m before r after = Emits (code (m .next)) (m .position) before r after
 
--- so many rules stored from a mark on, each body and the slot that branches to it; the first of the slots is instruction 6
-unfoldable pub placed : (count slot : ℕ) → List ℕ → Mark → List ℤ → List ℤ
-placed zero slot bytes m space = space
-placed (suc count) slot bytes m space =
-    let r = ruleCode bytes (m .next) in
-    placed count (slot + 1) bytes (record { next = r .next; position = m .position + length (r .code) })
-    (putCode (m .position) (r .code) (putCode (6 + slot) (Bnz (pos (m .position - (6 + slot))) ∷ []) space))
+-- behind the computed jump a slot for each command, and behind the slots the first body
+abbrev pub firstSlot : ℕ
+firstSlot = length dispatch
 
--- the place after them
-unfoldable pub placedEnd : (count : ℕ) → List ℕ → Mark → ℕ
-placedEnd zero bytes m = m .position
-placedEnd (suc count) bytes m =
-    let r = ruleCode bytes (m .next) in
-    placedEnd count bytes (record { next = r .next; position = m .position + length (r .code) })
+abbrev pub firstBody : ℕ
+firstBody = firstSlot + length opcodes
+
+-- where each of the bodies starts, if the first does at a place
+abbrev pub starts : (place : ℕ) → List (List Instruction) → List ℕ
+starts place [] = []
+starts place (b ∷ bs) = place ∷ starts (place + length b) bs
+
+-- slots from a place on, each of which branches to where the body of its command's rule starts
+unfoldable pub slotsTo : (place : ℕ) → List ℕ → List Opcode → List Instruction
+slotsTo place begun [] = []
+slotsTo place begun (o ∷ os) = Bnz (pos (getD begun (ruleNumber o) 0 - place)) ∷ slotsTo (place + 1) begun os
+
+-- every body starts behind the slots, and not too far for a branch
+abbrev pub Ahead : List ℕ → Type 0
+Ahead begun = (n : ℕ) → n < ruleCount → (firstBody ≤ getD begun n 0) × (getD begun n 0 ≤ 2 ^ 20)

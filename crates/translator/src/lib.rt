@@ -3,6 +3,7 @@
 ghost use mathlib.Core.Path.{_≡_};
 ghost use Prim.Native.Nat.{_+_, _*_, _≤_, _^_};
 ghost use lib.ListN.{length};
+ghost use Rattle.program.specs.Command.{opcodes};
 ghost use Rattle.policy.specs.Read.{readTable};
 ghost use Rattle.word.specs.Lay.{laid};
 ghost use Rattle.handler.specs.Space.{kernelWords};
@@ -10,9 +11,12 @@ ghost use Rattle.handler.specs.Translate.{handlerOf};
 ghost use Rattle.handler.specs.Claim.{Handles};
 ghost use Rattle.translator.specs.Emit.{partOf, twoPieces, joinCode, flowsCode, eitherCode, labelCode, conditionCode};
 ghost use Rattle.translator.specs.Emit.{answerCode, guardedCode, ruleCode, tableCode, putAll, putCode, Emitted};
+ghost use Rattle.translator.specs.Emit.{firstSlot, slotsTo, Ahead};
 use handler::code;
 use policy::Token;
 use policy::token_of;
+use program::Shape;
+use program::shape_of;
 use tables::Checked;
 use tables::check_table;
 use tables::expression::Test;
@@ -41,10 +45,12 @@ const OR: i64 = code::OR as i64;
 
 const DUP: i64 = code::DUP as i64;
 
-// A slot for each rule, behind the six instructions of the computed jump; the first body stands behind them.
-const RULES: usize = policy::RULES as usize;
+// A slot for each code, up to OutputTo's, behind the six instructions of the computed jump; the first rule's body stands behind them.
+const CODES: usize = program::code::OUTPUT_TO as usize;
 
-const FIRST: usize = 6 + RULES;
+const FIRST: usize = 6 + CODES;
+
+const RULES: usize = policy::RULES as usize;
 
 // Where a translation stands: the offset of the next byte, and the place of the next instruction.
 struct Mark {
@@ -340,26 +346,47 @@ fn emit_rule(bytes: &[u8], mark: Mark, space: &mut [i64]) -> Mark
 // Tables
 // ════════════════════════════════════════════════════════════════════════════════════════════
 
-// A whole handler; it has so many instructions. First the computed jump; a slot branches to where its rule's instructions start.
+// A slot for each code, which branches to where the body of its command's rule starts; none of these codes is unknown.
+fn emit_slots(starts: &[usize; RULES], space: &mut [i64])
+    requires { ⌜ Ahead (now starts) ⌝ }
+    ensures { λ _. ⌜ now (space .exit) ≡ putCode firstSlot (slotsTo firstSlot (now (starts .entry)) opcodes) (now (space .entry)) ⌝ }
+{
+    let mut i: usize = 0;
+    while i < CODES {
+        let shape = shape_of(i as u64 + 1);
+        match shape {
+            Shape::Of(_, _, _, rule) => {
+                let slot = 6 + i;
+                let ahead = starts[rule] - slot;
+                let branch = [BNZ, ahead as i64];
+                emit(space, slot, &branch);
+                i += 1;
+            }
+            Shape::Unknown => return,
+        }
+    }
+}
+
+// A whole handler; it has so many instructions. First the computed jump, then the rules' bodies; the slots are stored when it is known
+// where each body starts.
 fn emit_table(bytes: &[u8], space: &mut [i64]) -> usize
     ensures count { λ r. ⌜ r ≡ length (tableCode (now (bytes .entry))) ⌝ }
     ensures written { λ r. ⌜ now (space .exit) ≡ putCode 0 (tableCode (now (bytes .entry))) (now (space .entry)) ⌝ }
 {
     let dispatch = [PUSH, 0, LOAD, 0, DUP, 0, PUSH, 5, ADD, 0, JUMP, 0];
     emit(space, 0, &dispatch);
+    let mut starts = [0usize; RULES];
     let mut mark = Mark {
         next: 0,
         position: FIRST,
     };
     let mut i: usize = 0;
     while i < RULES {
-        let slot = 6 + i;
-        let ahead = mark.position - slot;
-        let branch = [BNZ, ahead as i64];
-        emit(space, slot, &branch);
+        starts[i] = mark.position;
         mark = emit_rule(bytes, mark, space);
         i += 1;
     }
+    emit_slots(&starts, space);
     mark.position
 }
 

@@ -83,7 +83,15 @@ fn bits(s: &[u8], at: usize, width: usize) -> u64
     number
 }
 
-// Writes a number as two bytes, low byte first, if there is room; a number that they do not hold is cut to its lowest bits.
+// Writes a number as one byte, if there is room; a number that it does not hold is cut to its lowest bits. So the others, low byte first.
+pub fn put_byte(number: i64, out: &mut [u8], at: usize) -> Put
+    ensures answer { λ r. ⌜ r ≡ putAnswer at (bytesOf 1 number) (now (out .entry)) ⌝ }
+    ensures written { λ r. ⌜ now (out .exit) ≡ putOut at (bytesOf 1 number) (now (out .entry)) ⌝ }
+{
+    put_bytes(to_bits(number), 1, out, at)
+}
+
+// As two bytes.
 pub fn put_i16(number: i64, out: &mut [u8], at: usize) -> Put
     ensures answer { λ r. ⌜ r ≡ putAnswer at (bytesOf 2 number) (now (out .entry)) ⌝ }
     ensures written { λ r. ⌜ now (out .exit) ≡ putOut at (bytesOf 2 number) (now (out .entry)) ⌝ }

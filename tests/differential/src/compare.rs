@@ -5,7 +5,7 @@ use crate::generate::{job, start, Start};
 use crate::random::Random;
 use crate::shrink::shrink;
 use crate::tally::Tally;
-use model::engine::{judged, tagged, Handler, Lent};
+use model::engine::{judged, tagged_noted, Handler, Lent};
 use model::machine::{whole, Judge};
 use model::page::{page, read};
 use model::rules::{standard, Labels, Question, Table, STANDARD};
@@ -23,6 +23,7 @@ fn lent_difference(engine: &Lent, model: &Lent) -> Option<String> {
         ("numbers", &engine.numbers, &model.numbers),
         ("line_labels", &engine.line_labels, &model.line_labels),
         ("kinds", &engine.kinds, &model.kinds),
+        ("pages", &engine.pages, &model.pages),
     ];
     for (name, engine, model) in runs {
         if engine == model {
@@ -58,6 +59,10 @@ impl Judge for Noted<'_> {
         self.0.combined(command, number);
         Some(number)
     }
+
+    fn printed(&mut self, _place: i64, command: Command) {
+        self.0.printed(command);
+    }
 }
 
 fn compare_plain(backend: &dyn Backend, start: &Start, tally: &mut Tally) -> Result<(), String> {
@@ -81,8 +86,11 @@ fn compare_tagged(backend: &dyn Backend, start: &Start, tally: &mut Tally) -> Re
     let mut by_model = start.lent.clone();
     // The handler is the engine's own: the model takes its words from where the engine left them.
     let words = &by_engine.handler[..(2 * count).min(by_engine.handler.len())];
-    let model = tagged(&start.sheet, &start.table, Handler { count, words }, &mut by_model, start.fuel);
-    if let Some(wrong) = model.wrong {
+    let handler = Handler { count, words };
+    let note = |memory: &_, question: &_| tally.consulted(memory, question);
+    let model = tagged_noted(&start.sheet, &start.table, handler, &mut by_model, start.fuel, note);
+    // Where the engine refused the start it left no handler.
+    if let (0, Some(wrong)) = (engine.words[0], model.wrong) {
         return Err(format!("handler: {wrong:?}"));
     }
     let answer = Answer::from(model.answer);
@@ -92,6 +100,9 @@ fn compare_tagged(backend: &dyn Backend, start: &Start, tally: &mut Tally) -> Re
             tally.other_table(table, count);
         }
         tally.filled_memories += u64::from(start.lent.rule_memory.iter().any(|&word| word != 0));
+    }
+    if let Ok(table) = &table {
+        tally.started(&start.lent.rule_memory, table, answer.words[0]);
     }
     if let (6, Err((fault, _))) = (answer.words[0], table) {
         tally.table_fault(fault);
@@ -131,11 +142,15 @@ fn compare_page(backend: &dyn Backend, random: &mut Random, tally: &mut Tally) -
     }
     match read(&job) {
         Err((fault, _)) => tally.job_fault(fault),
-        Ok(_) if expected.starts_with("refused") => tally.job_refusals += 1,
+        Ok(_) if expected.starts_with("refused") => {
+            tally.job_refusals += 1;
+            tally.job_pages_refused += u64::from(expected.starts_with("refused 12 "));
+        }
         Ok(_) => {
             tally.pages += 1;
             tally.page_bytes += expected.len() as u64;
-            tally.page_ends += u64::from(expected.lines().any(|line| line.starts_with("end ")));
+            tally.page_ends += u64::from(expected.lines().any(|line| line.contains(" end ")));
+            tally.other_pages += u64::from(expected.lines().any(|line| !line.starts_with("0 ")));
         }
     }
     Ok(())
@@ -174,7 +189,7 @@ pub fn describe(start: &Start) -> String {
     let cells = lent.values.len().min(12);
     format!(
         "  sheet {sheet}\n  table {:02x?}\n  values {:?}\n  labels {:?}\n  rule memory {:?}\n  lengths: cells {} {} program {} \
-         stack {} handler {} output {} {} {}\n  fuel {}",
+         stack {} handler {} output {} {} {} {}\n  fuel {}",
         start.table,
         &lent.values[..cells],
         &lent.labels[..cells.min(lent.labels.len())],
@@ -187,6 +202,7 @@ pub fn describe(start: &Start) -> String {
         lent.numbers.len(),
         lent.line_labels.len(),
         lent.kinds.len(),
+        lent.pages.len(),
         start.fuel
     )
 }

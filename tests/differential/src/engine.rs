@@ -17,6 +17,7 @@ fn lend(lent: &mut Lent) -> (luvrodan::Lent<'_>, &mut [i64], &mut [i64]) {
         numbers: &mut lent.numbers,
         line_labels: &mut lent.line_labels,
         kinds: &mut lent.kinds,
+        pages: &mut lent.pages,
     };
     (lent_to_engine, &mut lent.rule_memory, &mut lent.handler)
 }

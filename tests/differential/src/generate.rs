@@ -7,7 +7,7 @@ use model::machine::Stop;
 use model::rules::{
     result_is_empty, LabelTree, Question, Rule, Table, YesNoTree, DEPTH, STANDARD, TABLE_BYTES,
 };
-use model::sheet::{decode, encode, inputs_of, Command, Command::*};
+use model::sheet::{decode, encode, inputs_of, Command, Command::*, COMMANDS, PAGES};
 use model::{Atom, Label};
 
 /// A start of either engine.
@@ -71,6 +71,12 @@ struct Builder<'a> {
 impl Builder<'_> {
     fn put(&mut self, command: Command) {
         self.commands.push(command);
+    }
+
+    /// Output or OutputTo.
+    fn print(&mut self) {
+        let command = if self.random.percent(50) { Output } else { OutputTo(page(self.random)) };
+        self.put(command);
     }
 
     fn here(&self) -> i64 {
@@ -178,10 +184,11 @@ impl Builder<'_> {
             1,
             1,
             1,
+            3,
         ]) {
             0 => {
                 self.value(2);
-                self.put(Output);
+                self.print();
             }
             1 => {
                 self.value(2);
@@ -216,7 +223,7 @@ impl Builder<'_> {
             10 => {
                 let start = self.here();
                 self.value(0);
-                self.put(Output);
+                self.print();
                 self.put(Push(1));
                 self.branch_back(start);
             }
@@ -231,12 +238,24 @@ impl Builder<'_> {
                 self.put(command);
             }
             13 => self.put(Ret),
+            15 => self.prints(),
             _ => {
                 let target = number(self.random);
                 self.put(Push(target));
                 let command = self.random.pick(&[Jump, Load, Call]);
                 self.put(command);
             }
+        }
+    }
+
+    /// Several values, and then as many lines one after the other, which may find one another's rows.
+    fn prints(&mut self) {
+        let count = self.random.between(2, 4);
+        for _ in 0..count {
+            self.value(0);
+        }
+        for _ in 0..count {
+            self.print();
         }
     }
 
@@ -282,7 +301,7 @@ impl Builder<'_> {
         self.commands[target] = Push(self.here());
         match self.random.weighted(&[40, 25, 25, 10]) {
             0 => self.put(Pop),
-            1 => self.put(Output),
+            1 => self.print(),
             2 => {
                 let branch = self.commands.len();
                 self.put(Bnz(0));
@@ -306,9 +325,12 @@ impl Builder<'_> {
         let target = self.commands.len();
         self.put(Push(0));
         self.put(Call);
-        for command in [Push(cell), Load, Output, Push(1), Output] {
+        for command in [Push(cell), Load] {
             self.put(command);
         }
+        self.print();
+        self.put(Push(1));
+        self.print();
         let skip = self.commands.len();
         self.put(Push(0));
         self.put(Jump);
@@ -324,9 +346,10 @@ impl Builder<'_> {
     fn leave(&mut self) {
         self.cell();
         let target = self.commands.len();
-        for command in [Push(0), Call, Push(1), Output] {
+        for command in [Push(0), Call, Push(1)] {
             self.put(command);
         }
+        self.print();
         let skip = self.commands.len();
         self.put(Push(0));
         self.put(Jump);
@@ -353,8 +376,26 @@ impl Builder<'_> {
     }
 }
 
+/// A page, mostly one of a few, so that pages have several lines.
+pub fn page(random: &mut Random) -> u8 {
+    if random.percent(60) {
+        random.pick(&[0, 1, 15])
+    } else {
+        random.below(PAGES.into()) as u8
+    }
+}
+
+/// A page that no sheet may have, next to the last one in some cases.
+fn page_outside(random: &mut Random) -> u8 {
+    match random.below(3) {
+        0 => PAGES,
+        1 => random.pick(&[17, 0x7f, 0x80, 0xff]),
+        _ => random.between(PAGES.into(), 0xff) as u8,
+    }
+}
+
 pub fn any_command(random: &mut Random) -> Command {
-    match random.below(11) {
+    match random.below(12) {
         0 => Add,
         1 => Sub,
         2 => Pop,
@@ -365,7 +406,8 @@ pub fn any_command(random: &mut Random) -> Command {
         7 => Jump,
         8 => Bnz(random.between(0, 12) as i16 - 6),
         9 => Call,
-        _ => Ret,
+        10 => Ret,
+        _ => OutputTo(page(random)),
     }
 }
 
@@ -396,7 +438,8 @@ pub fn commands(random: &mut Random, cells: usize) -> Vec<Command> {
             .map(|_| if random.percent(45) { Push(random.between(0, 9) as i64) } else { any_command(random) })
             .collect(),
         _ => {
-            let pair = random.pick(&[[Push(1), Pop], [Push(2), Output], [Push(0), Bnz(1)]]);
+            let pairs = [[Push(1), Pop], [Push(2), Output], [Push(0), Bnz(1)], [Push(3), OutputTo(7)]];
+            let pair = random.pick(&pairs);
             pair.into_iter().cycle().take(random.between(4090, 4100)).collect()
         }
     }
@@ -416,10 +459,42 @@ pub fn damage(random: &mut Random, bytes: &mut Vec<u8>, near: &[u8]) {
     }
 }
 
+/// Damages the bytes of a sheet: any of them, the page of an OutputTo, or its end, where an OutputTo is cut.
+pub fn damage_sheet(random: &mut Random, bytes: &mut Vec<u8>) {
+    let mut commands = decode(bytes).unwrap_or_default();
+    let pages: Vec<usize> = (0..commands.len()).filter(|&at| matches!(commands[at], OutputTo(_))).collect();
+    match random.weighted(&[70, 25, 5]) {
+        1 if !pages.is_empty() => {
+            for _ in 0..random.between(1, 2) {
+                commands[random.pick(&pages)] = OutputTo(page_outside(random));
+            }
+            *bytes = encode(&commands);
+            // A second fault, which may come first.
+            if random.percent(30) {
+                damage(random, bytes, &COMMAND_BYTES);
+            }
+        }
+        2 => bytes.push(0x0c),
+        _ => damage(random, bytes, &COMMAND_BYTES),
+    }
+}
+
+/// The codes, and what stands next to them and to the last page.
+const COMMAND_BYTES: [u8; 15] = [0, 1, 2, 3, 4, 5, 6, 7, 8, 9, 10, 11, 12, 13, 16];
+
+/// The bytes of commands. Where they are too many, the first of these may have a page that no sheet may have.
+pub fn encoded(random: &mut Random, mut commands: Vec<Command>) -> Vec<u8> {
+    if commands.len() > COMMANDS && random.percent(30) {
+        commands[COMMANDS] = OutputTo(page_outside(random));
+    }
+    encode(&commands)
+}
+
 pub fn sheet(random: &mut Random, cells: usize) -> Vec<u8> {
-    let mut bytes = encode(&commands(random, cells));
+    let commands = commands(random, cells);
+    let mut bytes = encoded(random, commands);
     if random.percent(8) {
-        damage(random, &mut bytes, &[0, 1, 2, 3, 4, 5, 6, 7, 8, 9, 10, 11, 12]);
+        damage_sheet(random, &mut bytes);
     }
     bytes
 }
@@ -563,10 +638,18 @@ fn no_secret_sums() -> Vec<u8> {
     table.bytes()
 }
 
+/// The standard table, but for lines of secrets, which are not allowed.
+fn no_secret_lines() -> Vec<u8> {
+    let mut table = Table::parse(&STANDARD).expect("the standard table is a table");
+    table.rules[3].allowed = YesNoTree::Flows(LabelTree::Input(1), LabelTree::Empty);
+    table.bytes()
+}
+
 /// A rule table's bytes: standard, another, or none.
 pub fn table(random: &mut Random) -> Vec<u8> {
-    match random.weighted(&[45, 38, 10, 3, 2, 2]) {
+    match random.weighted(&[45, 37, 10, 3, 2, 2, 1]) {
         0 => STANDARD.to_vec(),
+        6 => no_secret_lines(),
         1 => {
             let bytes = tree_table(random).bytes();
             if bytes.len() > TABLE_BYTES && random.percent(70) {
@@ -608,7 +691,8 @@ pub fn rule_memory(random: &mut Random, table: &[u8], first: Option<Command>) ->
     }
     let code = match first {
         Some(command) if random.percent(60) => command.code(),
-        _ => random.between(1, 11) as u8,
+        _ if random.percent(20) => random.pick(&[0x04, 0x0c]),
+        _ => random.between(1, 12) as u8,
     };
     let place = if random.percent(60) { 0 } else { label(random) };
     let mut question = Question { code, place, inputs: [None; 3] };
@@ -629,6 +713,11 @@ pub fn rule_memory(random: &mut Random, table: &[u8], first: Option<Command>) ->
                 2 => i64::from(label(random)),
                 _ => number(random),
             };
+        }
+        // The same labels after another code: that of a command with as many inputs, or that of none.
+        1 if random.percent(10) => {
+            let others = if inputs_of(code) == 1 { &[4, 12, 13][..] } else { &[13] };
+            words[0] = random.pick(others);
         }
         3 => words[5..].fill(-1),
         _ => {}
@@ -653,10 +742,10 @@ fn space(random: &mut Random, needs: usize) -> Vec<i64> {
     random.words(length)
 }
 
-/// Room for lines: numbers, labels and kinds. Each of the three is the shortest in some cases.
-fn output(random: &mut Random, room: usize) -> [Vec<i64>; 3] {
-    let mut lengths = [0; 3].map(|_| room + random.pick(&[0, 1, 2, 30]));
-    lengths[random.below(3)] = room;
+/// Room for lines: numbers, labels, kinds and pages. Each of the four is the shortest in some cases.
+fn output(random: &mut Random, room: usize) -> [Vec<i64>; 4] {
+    let mut lengths = [0; 4].map(|_| room + random.pick(&[0, 1, 2, 30]));
+    lengths[random.below(4)] = room;
     lengths.map(|length| random.words(length))
 }
 
@@ -672,12 +761,13 @@ fn room(random: &mut Random) -> usize {
 /// Where a run comes to the sheet's end: room for just the lines that it prints before, or for the end line too, and in
 /// some cases an allowance that is just spent there.
 fn fit(random: &mut Random, start: &mut Start) {
-    let [numbers, line_labels, kinds] = output(random, 1100);
-    let mut roomy = Lent { numbers, line_labels, kinds, ..start.lent.clone() };
+    let [numbers, line_labels, kinds, pages] = output(random, 1100);
+    let mut roomy = Lent { numbers, line_labels, kinds, pages, ..start.lent.clone() };
     if let Ok(Report { stop: Stop::End, steps, lines, .. }) = plain(&start.sheet, &mut roomy, start.fuel) {
         let end_fits = random.percent(40);
         let room = lines as usize - usize::from(!end_fits);
-        [start.lent.numbers, start.lent.line_labels, start.lent.kinds] = output(random, room);
+        let lent = &mut start.lent;
+        [lent.numbers, lent.line_labels, lent.kinds, lent.pages] = output(random, room);
         if random.percent(50) {
             start.fuel = steps;
         }
@@ -725,7 +815,7 @@ pub fn start(random: &mut Random, handler_count: impl Fn(&[u8]) -> u64) -> Start
     let program = 2 * commands.map_or(10, |commands| commands.len());
     let handler = 2 * handler_count(&table) as usize;
     let room = room(random);
-    let [numbers, line_labels, kinds] = output(random, room);
+    let [numbers, line_labels, kinds, pages] = output(random, room);
     let lent = Lent {
         values,
         labels,
@@ -736,6 +826,7 @@ pub fn start(random: &mut Random, handler_count: impl Fn(&[u8]) -> u64) -> Start
         numbers,
         line_labels,
         kinds,
+        pages,
     };
     let mut start = Start { sheet, table, lent, fuel: fuel(random) };
     if random.percent(20) {

@@ -1,6 +1,6 @@
 //! Looks for a counterexample to demand 3: two runs of one sheet, each on either engine, from cells that are alike
-//! for a set of owners, whose views for that set are not one the start of the other. And for an end line that misleads:
-//! a view that has one must be whole, with the other view as its start.
+//! for a set of owners, whose views for that set are not one the start of the other; and so for the lines of each page.
+//! And for an end line that misleads: a view that has one must be whole, with the other view as its start.
 
 use crate::backend::Backend;
 use crate::generate::{cells, commands, fuel, label, number, rule_memory};
@@ -8,7 +8,7 @@ use crate::random::Random;
 use model::engine::{Lent, ALLOWANCE};
 use model::machine::{Kind, Stop};
 use model::rules::{Table, STANDARD};
-use model::sheet::{encode, Command, COMMANDS};
+use model::sheet::{encode, Command, COMMANDS, PAGES};
 use model::{flows, Atom, Label};
 
 #[derive(Clone, Default)]
@@ -31,6 +31,10 @@ pub struct Pairs {
     /// Pairs of which one run was stopped by an overflow, and those of them in which that cut its view short.
     pub one_overflows: u64,
     pub overflow_cuts: u64,
+    /// Pairs whose views both have lines of this page.
+    pub pages: [u64; PAGES as usize],
+    /// Pairs whose views have equally many lines of one page, and one has more of another.
+    pub one_page_cut: u64,
 }
 
 impl Pairs {
@@ -44,11 +48,15 @@ impl Pairs {
             self.both_end, self.one_ends, self.hidden_ends
         );
         println!("stop 9 in one run {}, its view the shorter {}", self.one_overflows, self.overflow_cuts);
+        println!("lines of a page in both views, by page: {:?}", self.pages);
+        println!("one page longer and another alike {}", self.one_page_cut);
     }
 
     /// What was not reached though it should be.
     pub fn missing(&self) -> Vec<String> {
-        [
+        let pages = (0..).zip(self.pages).filter(|&(_, count)| count == 0);
+        let mut missing: Vec<String> = pages.map(|(page, _)| format!("lines of page {page}")).collect();
+        let never = [
             ("views with lines", self.with_lines),
             ("different ways", self.apart),
             ("one on each engine", self.mixed),
@@ -58,11 +66,12 @@ impl Pairs {
             ("an end outside the set", self.hidden_ends),
             ("stop 9 in one run", self.one_overflows),
             ("a view that stop 9 cut", self.overflow_cuts),
+            ("one page longer and another alike", self.one_page_cut),
         ]
         .into_iter()
-        .filter(|&(_, count)| count == 0)
-        .map(|(name, _)| name.into())
-        .collect()
+        .filter(|&(_, count)| count == 0);
+        missing.extend(never.map(|(name, _)| name.into()));
+        missing
     }
 }
 
@@ -84,8 +93,8 @@ fn alike(random: &mut Random, cells: &[Atom], set: Label) -> Vec<Atom> {
 }
 
 struct Run {
-    /// Kind, number and label of each line inside the set.
-    view: Vec<[i64; 3]>,
+    /// Page, kind, number and label of each line inside the set.
+    view: Vec<[i64; 4]>,
     stop: u64,
     steps: u64,
     /// The place's label is inside the set.
@@ -100,7 +109,12 @@ impl Run {
 
     /// Where in the view the first end line stands.
     fn end_line(&self) -> Option<usize> {
-        self.view.iter().position(|&[kind, ..]| kind == Kind::End as i64)
+        self.view.iter().position(|&[_, kind, ..]| kind == Kind::End as i64)
+    }
+
+    /// The lines of one page.
+    fn page(&self, page: u8) -> Vec<[i64; 4]> {
+        self.view.iter().copied().filter(|&[on, ..]| on == page.into()).collect()
     }
 
     fn has_end_line(&self) -> bool {
@@ -138,18 +152,24 @@ fn run(backend: &dyn Backend, random: &mut Random, sheet: &[Command], cells: &[A
     let [refusal, _, stop, steps, _, place_label, _, lines, _, _] = answer.words;
     assert_eq!(refusal, 0, "the start breaks no limit");
     let view = (0..lines as usize)
-        .map(|index| [lent.kinds[index], lent.numbers[index], lent.line_labels[index]])
-        .filter(|&[_, _, mark]| flows(mark as Label, set))
+        .map(|index| [lent.pages[index], lent.kinds[index], lent.numbers[index], lent.line_labels[index]])
+        .filter(|&[.., mark]| flows(mark as Label, set))
         .collect();
     Run { view, stop, steps, cleared: flows(place_label as Label, set), on_plain }
 }
 
-/// What is wrong with two views: they differ; one has an end line and the other goes on; or one has an end line where
-/// its run has none for this reader, or the other way round.
+/// Whether of two lists one is the start of the other.
+fn one_starts(one: &[[i64; 4]], two: &[[i64; 4]]) -> bool {
+    one.starts_with(two) || two.starts_with(one)
+}
+
+/// What is wrong with two views: they differ, on a page or in the order of all lines; one has an end line and the other
+/// goes on; or one has an end line where its run has none for this reader, or the other way round.
 fn wrong(one: &Run, two: &Run) -> Option<&'static str> {
-    let common = one.view.len().min(two.view.len());
     let passes = |whole: &Run, other: &Run| whole.has_end_line() && other.view.len() > whole.view.len();
-    if one.view[..common] != two.view[..common] {
+    if (0..PAGES).any(|page| !one_starts(&one.page(page), &two.page(page))) {
+        Some("differ on a page")
+    } else if !one_starts(&one.view, &two.view) {
         Some("differ")
     } else if passes(one, two) || passes(two, one) {
         Some("differ in what follows an end line")
@@ -188,6 +208,13 @@ pub fn privacy_case(backend: &dyn Backend, seed: u64, case: u64, pairs: &mut Pai
         pairs.one_overflows += 1;
         pairs.overflow_cuts += u64::from(cut.view.len() < other.view.len());
     }
+    let lengths = (0..PAGES).map(|page| [one.page(page).len(), two.page(page).len()]);
+    let lengths: Vec<[usize; 2]> = lengths.collect();
+    for (count, [one, two]) in pairs.pages.iter_mut().zip(&lengths) {
+        *count += u64::from(*one.min(two) > 0);
+    }
+    let alike = lengths.iter().any(|&[one, two]| one == two && one > 0);
+    pairs.one_page_cut += u64::from(alike && lengths.iter().any(|[one, two]| one != two));
     let Some(wrong) = wrong(&one, &two) else {
         return Ok(());
     };

@@ -5,8 +5,8 @@ use crate::generate::Start;
 use model::engine::Lent;
 use model::machine::Kind;
 use model::page::JobFault;
-use model::rules::{Question, Table, TableFault, DEPTH};
-use model::sheet::{decode, Command};
+use model::rules::{Question, RuleMemory, Table, TableFault, DEPTH};
+use model::sheet::{decode, Command, PAGES};
 
 const TABLE_FAULTS: [TableFault; 7] = [
     TableFault::TooLong,
@@ -17,6 +17,9 @@ const TABLE_FAULTS: [TableFault; 7] = [
     TableFault::Missing,
     TableFault::LeftOver,
 ];
+
+/// The refusals that a start can meet.
+const REFUSALS: [usize; 10] = [1, 2, 3, 4, 5, 6, 7, 8, 9, 12];
 
 const JOB_FAULTS: [JobFault; 5] = [
     JobFault::TooLong,
@@ -31,7 +34,18 @@ const ENDS: [&str; 5] =
     ["end line", "end line, hidden", "end line, spent", "stop 8 at the end", "stop 8 at end, spent"];
 
 /// Stop 8 where one run of the output space alone is the shortest.
-const FULL: [&str; 3] = ["stop 8 by numbers", "stop 8 by labels", "stop 8 by kinds"];
+const FULL: [&str; 4] = ["stop 8 by numbers", "stop 8 by labels", "stop 8 by kinds", "stop 8 by pages"];
+
+/// What may be met at an OutputTo, in a run or before it.
+const OUTPUT_TO: [&str; 7] = [
+    "stop 3, OutputTo",
+    "stop 8, OutputTo",
+    "refusal 1, page over 15",
+    "refusal 3, OutputTo",
+    "refusal 12, page 16",
+    "refusal 12, page over 127",
+    "refusal 12 before another",
+];
 
 /// Stop 9 by command and side; by one is at the number next to the limit.
 const OVERFLOWS: [&str; 7] = [
@@ -47,11 +61,19 @@ const OVERFLOWS: [&str; 7] = [
 /// Sums that are a limit.
 const LIMITS: [&str; 4] = ["Add to 2^63-1", "Add to -2^63", "Sub to 2^63-1", "Sub to -2^63"];
 
+/// What may be met in the rule memory, where the labels are those of the command that asks.
+const ROWS: [&str; 3] =
+    ["a row of OutputTo matched", "OutputTo at a row of Output", "Output at a row of OutputTo"];
+
+/// Rule memories at a start; the last is refused for its code alone.
+const STARTS: [&str; 3] =
+    ["start with a row of Output", "start with a row of OutputTo", "refusal 7 by code 13"];
+
 /// Counts for one engine.
 #[derive(Clone, Default)]
 pub struct Engine {
     pub stops: [u64; 10],
-    pub refusals: [u64; 10],
+    pub refusals: [u64; 13],
     /// Refusal 8 by its place.
     pub spaces: [u64; 4],
     pub steps: u64,
@@ -61,9 +83,14 @@ pub struct Engine {
     pub longest: u64,
     pub ends: [u64; ENDS.len()],
     pub full: [u64; FULL.len()],
+    pub output_to: [u64; OUTPUT_TO.len()],
     pub overflows: [u64; OVERFLOWS.len()],
     /// Stop 6 at a sum that is outside 64 bits.
     pub denied_overflows: u64,
+    /// Stop 6 at an OutputTo.
+    pub denied_output_to: u64,
+    /// Lines by page; on page 0 also those of Output and the end lines.
+    pub pages: [u64; PAGES as usize],
 }
 
 impl Engine {
@@ -75,6 +102,7 @@ impl Engine {
             if refusal == 8 {
                 self.spaces[place as usize] += 1;
             }
+            self.note_output_to(refused_at_output_to(&start.sheet, refusal, place as usize));
             return;
         }
         self.stops[stop as usize] += 1;
@@ -84,18 +112,25 @@ impl Engine {
         self.kernel_steps += kernel_steps;
         self.longest = self.longest.max(steps);
         let end = lent.kinds[..lines as usize].contains(&(Kind::End as i64));
+        for &page in &lent.pages[..lines as usize] {
+            self.pages[page as usize] += 1;
+        }
         let full = stop == 8;
-        let full_end = full && decode(&start.sheet).is_ok_and(|commands| commands.len() as u64 == pc);
+        let commands = decode(&start.sheet).unwrap_or_default();
+        let full_end = full && commands.len() as u64 == pc;
+        if let Some(Command::OutputTo(_)) = commands.get(pc as usize) {
+            self.note_output_to([stop == 3, full, false, false, false, false, false]);
+            self.denied_output_to += u64::from(stop == 6);
+        }
         let spent = steps == start.fuel;
         let met = [end, end && label != 0, end && spent, full_end, full_end && spent];
         for (count, met) in self.ends.iter_mut().zip(met) {
             *count += u64::from(met);
         }
-        let (numbers, labels, kinds) = (lent.numbers.len(), lent.line_labels.len(), lent.kinds.len());
-        let shortest =
-            [numbers < labels.min(kinds), labels < numbers.min(kinds), kinds < numbers.min(labels)];
-        for (count, alone) in self.full.iter_mut().zip(shortest) {
-            *count += u64::from(full && alone);
+        let runs = [&lent.numbers, &lent.line_labels, &lent.kinds, &lent.pages].map(Vec::len);
+        let shortest = runs.iter().filter(|&&length| length == lent.room()).count();
+        for (count, length) in self.full.iter_mut().zip(runs) {
+            *count += u64::from(full && shortest == 1 && length == lent.room());
         }
         let Some((command, sum)) = answer.sum(&start.sheet, lent).filter(|&(_, sum)| !fits(sum)) else {
             return;
@@ -119,11 +154,29 @@ impl Engine {
         }
     }
 
-    /// What was met of ends, full space and overflows, by name.
-    fn details(&self) -> impl Iterator<Item = (&'static str, u64)> + '_ {
-        let names = ENDS.into_iter().chain(FULL).chain(OVERFLOWS);
-        names.zip(self.ends.iter().chain(&self.full).chain(&self.overflows).copied())
+    fn note_output_to(&mut self, met: [bool; OUTPUT_TO.len()]) {
+        for (count, met) in self.output_to.iter_mut().zip(met) {
+            *count += u64::from(met);
+        }
     }
+
+    /// What was met of ends, full space, OutputTo and overflows, by name.
+    fn details(&self) -> impl Iterator<Item = (&'static str, u64)> + '_ {
+        let names = ENDS.into_iter().chain(FULL).chain(OUTPUT_TO).chain(OVERFLOWS);
+        let counts = self.ends.iter().chain(&self.full).chain(&self.output_to).chain(&self.overflows);
+        names.zip(counts.copied())
+    }
+}
+
+/// What a refusal of a sheet is of [`OUTPUT_TO`].
+fn refused_at_output_to(sheet: &[u8], refusal: u64, place: usize) -> [bool; OUTPUT_TO.len()] {
+    let is_sheet = [1, 3, 12].contains(&refusal) && sheet[place] == 0x0c;
+    let page = sheet.get(place + 1).copied().filter(|_| is_sheet);
+    let over = |least| page.is_some_and(|page| page >= least);
+    let is = |number| is_sheet && refusal == number;
+    // Whether what stands after the page would be refused too.
+    let later = is(12) && decode(&sheet[place + 2..]).is_err();
+    [false, false, is(1) && over(16), is(3), is(12) && page == Some(16), is(12) && over(128), later]
 }
 
 #[derive(Clone, Default)]
@@ -131,9 +184,16 @@ pub struct Tally {
     pub plain: Engine,
     pub tagged: Engine,
     /// Commands that were judged on the plain engine, by code.
-    pub commands: [u64; 12],
+    pub commands: [u64; 13],
     /// The same at a place whose label is not empty.
-    pub hidden: [u64; 12],
+    pub hidden: [u64; 13],
+    /// An OutputTo of a hidden number at a hidden place, on the plain engine.
+    pub hidden_output_to: u64,
+    /// OutputTos that were carried out on the plain engine, by page.
+    pub output_to: [u64; PAGES as usize],
+    /// Matches of a row of OutputTo; an OutputTo that finds Output's row of its labels, and the other way round.
+    pub rows: [u64; ROWS.len()],
+    pub starts: [u64; STARTS.len()],
     /// Sums that are a limit, on the plain engine.
     pub limits: [u64; LIMITS.len()],
     /// Refused tables by what is wrong with them.
@@ -147,11 +207,14 @@ pub struct Tally {
     pub filled_memories: u64,
     pub pages: u64,
     pub page_bytes: u64,
-    /// Pages with an end line.
+    /// Pages with an end line, and those with a line that is not on page 0.
     pub page_ends: u64,
+    pub other_pages: u64,
     /// Faulty jobs by what is wrong with them.
     pub job_faults: [u64; 5],
     pub job_refusals: u64,
+    /// Those of them by 12.
+    pub job_pages_refused: u64,
     pub short_buffers: u64,
 }
 
@@ -160,6 +223,37 @@ impl Tally {
         self.commands[usize::from(question.code)] += 1;
         if question.place != 0 {
             self.hidden[usize::from(question.code)] += 1;
+            let hidden = question.inputs[0].is_some_and(|label| label != 0);
+            self.hidden_output_to += u64::from(question.code == 0x0c && hidden);
+        }
+    }
+
+    /// A command that wrote a line.
+    pub fn printed(&mut self, command: Command) {
+        if let Command::OutputTo(page) = command {
+            self.output_to[usize::from(page)] += 1;
+        }
+    }
+
+    /// The rule memory of a start of the tag engine, and its refusal or 0.
+    pub fn started(&mut self, memory: &[i64], table: &Table, refusal: u64) {
+        let code = memory.first().copied().unwrap_or(0);
+        let as_output_to = [&[12], &memory[memory.len().min(1)..]].concat();
+        let by_code = refusal == 7 && code == 13 && table.accepts(&as_output_to);
+        let met = [refusal == 0 && code == 4, refusal == 0 && code == 12, by_code];
+        for (count, met) in self.starts.iter_mut().zip(met) {
+            *count += u64::from(met);
+        }
+    }
+
+    /// What the rule memory held and what it was asked.
+    pub fn consulted(&mut self, memory: &RuleMemory, question: &Question) {
+        let words = question.words();
+        if memory[1..5] == words[1..] {
+            let met = [[12, 12], [4, 12], [12, 4]].map(|codes| codes == [memory[0], words[0]]);
+            for (count, met) in self.rows.iter_mut().zip(met) {
+                *count += u64::from(met);
+            }
         }
     }
 
@@ -202,7 +296,7 @@ impl Tally {
                 want(format!("{name}: stop {stop}"), count);
             }
             let rules = name == "tagged";
-            for number in (1..=9).filter(|number| rules || ![6, 7].contains(number)) {
+            for number in REFUSALS.into_iter().filter(|number| rules || ![6, 7].contains(number)) {
                 want(format!("{name}: refusal {number}"), engine.refusals[number]);
             }
             for place in 1..=if rules { 3 } else { 2 } {
@@ -213,10 +307,19 @@ impl Tally {
             }
         }
         want("tagged: stop 6 at a sum outside 64 bits".into(), self.tagged.denied_overflows);
+        want("tagged: stop 6 at an OutputTo".into(), self.tagged.denied_output_to);
+        for page in 0..PAGES.into() {
+            want(format!("OutputTo {page}"), self.output_to[page]);
+            want(format!("tagged: a line on page {page}"), self.tagged.pages[page]);
+        }
+        want("OutputTo of a hidden number at a hidden place".into(), self.hidden_output_to);
+        for (what, &count) in ROWS.iter().zip(&self.rows).chain(STARTS.iter().zip(&self.starts)) {
+            want((*what).into(), count);
+        }
         for (what, &count) in LIMITS.iter().zip(&self.limits) {
             want((*what).into(), count);
         }
-        for code in 0x01..=0x0b {
+        for code in 0x01..=0x0c {
             want(format!("command {code:02x}"), self.commands[code]);
             want(format!("command {code:02x} at a hidden place"), self.hidden[code]);
         }
@@ -232,14 +335,16 @@ impl Tally {
         want("a page with lines".into(), self.page_bytes);
         want("a page with an end line".into(), self.page_ends);
         want("a page without an end line".into(), self.pages - self.page_ends);
+        want("a page with lines of other pages than 0".into(), self.other_pages);
         want("a refused job".into(), self.job_refusals);
+        want("a job refused by 12".into(), self.job_pages_refused);
         want("a short page buffer".into(), self.short_buffers);
         missing
     }
 
     pub fn print(&self) {
-        println!("{:>22} {:>12} {:>12}", "", "plain", "tagged");
-        let row = |name: String, plain: u64, tagged: u64| println!("{name:>22} {plain:>12} {tagged:>12}");
+        println!("{:>26} {:>12} {:>12}", "", "plain", "tagged");
+        let row = |name: String, plain: u64, tagged: u64| println!("{name:>26} {plain:>12} {tagged:>12}");
         for stop in 0..10 {
             row(format!("stop {stop}"), self.plain.stops[stop], self.tagged.stops[stop]);
         }
@@ -247,7 +352,8 @@ impl Tally {
             row(what.into(), plain, tagged);
         }
         row("stop 6 before 9".into(), self.plain.denied_overflows, self.tagged.denied_overflows);
-        for number in 1..10 {
+        row("stop 6, OutputTo".into(), self.plain.denied_output_to, self.tagged.denied_output_to);
+        for number in REFUSALS {
             row(format!("refusal {number}"), self.plain.refusals[number], self.tagged.refusals[number]);
         }
         for place in 1..4 {
@@ -258,10 +364,19 @@ impl Tally {
         row("lines".into(), self.plain.lines, self.tagged.lines);
         row("faults".into(), self.plain.faults, self.tagged.faults);
         row("kernel steps".into(), self.plain.kernel_steps, self.tagged.kernel_steps);
-        println!("{:>22} {:>12} {:>12}", "command", "asked", "hidden place");
-        for code in 0x01..=0x0b {
+        println!("{:>26} {:>12} {:>12}", "command", "asked", "hidden place");
+        for code in 0x01..=0x0c {
             row(format!("{code:02x}"), self.commands[code], self.hidden[code]);
         }
+        println!(
+            "OutputTo carried out, by page: {:?}; hidden number and place: {}",
+            self.output_to, self.hidden_output_to
+        );
+        print!("rule memory:");
+        for (what, count) in ROWS.iter().zip(&self.rows).chain(STARTS.iter().zip(&self.starts)) {
+            print!(" {what}: {count}");
+        }
+        println!();
         print!("sums at the limits:");
         for (what, count) in LIMITS.iter().zip(&self.limits) {
             print!(" {what}: {count}");
@@ -280,8 +395,13 @@ impl Tally {
             print!(" {fault:?} {count}");
         }
         print!(
-            "\njobs: pages {} of {} bytes, {} with an end line, refused {}",
-            self.pages, self.page_bytes, self.page_ends, self.job_refusals
+            "\njobs: pages {} of {} bytes, {} with an end line, {} with other pages than 0, refused {}, by 12 {}",
+            self.pages,
+            self.page_bytes,
+            self.page_ends,
+            self.other_pages,
+            self.job_refusals,
+            self.job_pages_refused
         );
         for (fault, count) in JOB_FAULTS.iter().zip(&self.job_faults) {
             print!(", {fault:?} {count}");

@@ -46,13 +46,21 @@ fn find_pair(fault: Fault, wrong: &str) {
 fn every_leak_is_found() {
     for fault in [
         Fault::OutputWithoutPlace,
+        Fault::OutputToWithoutPlace,
         Fault::BranchWithoutPlace,
         Fault::StoreOnNewLabel,
         Fault::EndUnlabelled,
         Fault::EndWhereSpent,
+        Fault::PageKept,
+        Fault::EndOnLastPage,
     ] {
-        find_pair(fault, " differ: ");
+        find_pair(fault, " differ");
     }
+    // Lines of one page that differ; and lines that do not, page by page, but in their order or in what page they are on.
+    find_pair(Fault::OutputToWithoutPlace, " differ on a page: ");
+    find_pair(Fault::PageKept, " differ on a page: ");
+    find_pair(Fault::OutputToWithoutPlace, " differ: ");
+    find_pair(Fault::PageKept, " differ: ");
 }
 
 #[test]

@@ -1,5 +1,5 @@
 //! The two engines over lent words: what is refused, what is run, what the words hold afterwards (document 01, "Tag
-//! engine", "Refused before the first step"; document 02, U1, for the third run of the output space).
+//! engine", "Refused before the first step"; document 02, U1 and U4, for the third and fourth run of the output space).
 
 use crate::kernel::{self, Breach, Ending};
 use crate::machine::{Entry, Judge, Kind, Line, Machine, Stop, STACK};
@@ -24,6 +24,7 @@ pub struct Lent {
     pub numbers: Vec<i64>,
     pub line_labels: Vec<i64>,
     pub kinds: Vec<i64>,
+    pub pages: Vec<i64>,
 }
 
 impl Lent {
@@ -40,17 +41,19 @@ impl Lent {
             numbers: vec![0; lines],
             line_labels: vec![0; lines],
             kinds: vec![0; lines],
+            pages: vec![0; lines],
         }
     }
 
-    /// How many lines fit: the shortest of the output space's three runs says so.
+    /// How many lines fit: the shortest of the output space's four runs says so.
     pub fn room(&self) -> usize {
-        self.numbers.len().min(self.line_labels.len()).min(self.kinds.len())
+        self.numbers.len().min(self.line_labels.len()).min(self.kinds.len()).min(self.pages.len())
     }
 
     /// The lines that a run of this report left.
     pub fn lines(&self, report: &Report) -> Vec<Line> {
         let line = |index: usize| Line {
+            page: self.pages[index] as u8,
             kind: if self.kinds[index] == Kind::End as i64 { Kind::End } else { Kind::Number },
             number: self.numbers[index],
             label: self.line_labels[index] as Label,
@@ -142,6 +145,7 @@ fn run(commands: &[Command], cells: Vec<Atom>, lent: &mut Lent, fuel: u64, judge
     lay(&mut lent.numbers, machine.lines.iter().map(|line| [line.number]));
     lay(&mut lent.line_labels, machine.lines.iter().map(|line| [line.label.into()]));
     lay(&mut lent.kinds, machine.lines.iter().map(|line| [line.kind as i64]));
+    lay(&mut lent.pages, machine.lines.iter().map(|line| [line.page.into()]));
     Report {
         stop,
         steps,
@@ -169,16 +173,18 @@ pub fn judged(sheet: &[u8], lent: &mut Lent, fuel: u64, judge: &mut impl Judge) 
 }
 
 /// A rule memory of one row, with the handler behind it.
-struct Tags<'a> {
+struct Tags<'a, N> {
     memory: RuleMemory,
     handler: Handler<'a>,
     table: &'a Table,
     faults: u64,
     kernel_steps: u64,
     wrong: Option<HandlerFault>,
+    /// Told what the rule memory holds and what it is asked, for tests that count.
+    note: N,
 }
 
-impl Tags<'_> {
+impl<N> Tags<'_, N> {
     /// Writes the question, runs the handler, and holds what it did to the table's own answer.
     fn fault(&mut self, question: &Question) {
         self.memory[..5].copy_from_slice(&question.words());
@@ -207,8 +213,9 @@ impl Tags<'_> {
     }
 }
 
-impl Judge for Tags<'_> {
+impl<N: FnMut(&RuleMemory, &Question)> Judge for Tags<'_, N> {
     fn judge(&mut self, question: &Question) -> Option<Labels> {
+        (self.note)(&self.memory, question);
         if self.memory[..5] != question.words() {
             self.fault(question);
         }
@@ -227,8 +234,20 @@ pub struct Tagged {
 
 /// The tag engine with a rule memory of one row.
 pub fn tagged(sheet: &[u8], table: &[u8], handler: Handler, lent: &mut Lent, fuel: u64) -> Tagged {
+    tagged_noted(sheet, table, handler, lent, fuel, |_, _| ())
+}
+
+/// The same; `note` is told before each command what the rule memory holds and what it is asked.
+pub fn tagged_noted(
+    sheet: &[u8],
+    table: &[u8],
+    handler: Handler,
+    lent: &mut Lent,
+    fuel: u64,
+    note: impl FnMut(&RuleMemory, &Question),
+) -> Tagged {
     let mut wrong = None;
-    let answer = tagged_run(sheet, table, handler, lent, fuel, &mut wrong);
+    let answer = tagged_run(sheet, table, handler, lent, fuel, note, &mut wrong);
     Tagged { answer, wrong }
 }
 
@@ -238,6 +257,7 @@ fn tagged_run(
     handler: Handler,
     lent: &mut Lent,
     fuel: u64,
+    note: impl FnMut(&RuleMemory, &Question),
     wrong: &mut Option<HandlerFault>,
 ) -> Result<Report, Refusal> {
     let commands = decode(sheet)?;
@@ -255,8 +275,16 @@ fn tagged_run(
     if handler.count > kernel::COMMANDS {
         *wrong = Some(HandlerFault::TooManyCommands(handler.count));
     }
-    let mut tags =
-        Tags { memory: [0; 7], handler, table: &table, faults: 0, kernel_steps: 0, wrong: wrong.take() };
+    let wrong_so_far = wrong.take();
+    let mut tags = Tags {
+        memory: [0; 7],
+        handler,
+        table: &table,
+        faults: 0,
+        kernel_steps: 0,
+        wrong: wrong_so_far,
+        note,
+    };
     tags.memory.copy_from_slice(&lent.rule_memory);
     let report = run(&commands, cells, lent, fuel, &mut tags);
     lent.handler[..2 * handler.count].copy_from_slice(&handler.words[..2 * handler.count]);

@@ -1,5 +1,5 @@
 //! The machine: its state, its step and its runs (document 01, "Atoms, cells, stack", "Commands", "Stops"; document 02,
-//! U1, for the end line, and U2, for sums outside 64 bits).
+//! U1, for the end line, U2, for sums outside 64 bits, and U4, for pages).
 
 use crate::rules::{Labels, Question};
 use crate::sheet::Command;
@@ -29,16 +29,17 @@ pub enum Stop {
     Overflow = 9,
 }
 
-/// What a line says: a number that an Output dropped, or that the run came to the sheet's end.
+/// What a line says: a number that an Output or OutputTo dropped, or that the run came to the sheet's end.
 #[derive(Clone, Copy, Debug, PartialEq, Eq)]
 pub enum Kind {
     Number = 0,
     End = 1,
 }
 
-/// A line's record; an end line's number is 0.
+/// A line's record; an end line's number is 0, and it stands on page 0.
 #[derive(Clone, Copy, Debug, PartialEq, Eq)]
 pub struct Line {
+    pub page: u8,
     pub kind: Kind,
     pub number: i64,
     pub label: Label,
@@ -110,6 +111,9 @@ pub trait Judge {
     fn combine(&mut self, command: Command, top: i64, under: i64) -> Option<i64> {
         i64::try_from(whole(command, top, under)).ok()
     }
+
+    /// Told of every line that a command writes, for tests that count or follow them.
+    fn printed(&mut self, _place: i64, _command: Command) {}
 }
 
 /// A function of the question alone is a judge.
@@ -139,11 +143,11 @@ impl Machine {
         usize::try_from(address).ok().filter(|&index| index < self.cells.len()).ok_or(Stop::AddressOutside)
     }
 
-    fn write(&mut self, kind: Kind, number: i64, label: Label) -> Result<(), Stop> {
+    fn write(&mut self, line: Line) -> Result<(), Stop> {
         if self.lines.len() >= self.room {
             return Err(Stop::OutputFull);
         }
-        self.lines.push(Line { kind, number, label });
+        self.lines.push(line);
         Ok(())
     }
 
@@ -152,7 +156,7 @@ impl Machine {
         use Command::*;
         Ok(match command {
             Push(_) => vec![],
-            Pop | Output | Jump | Bnz(_) => vec![self.stack.value(0)?],
+            Pop | Output | OutputTo(_) | Jump | Bnz(_) => vec![self.stack.value(0)?],
             Add | Sub => vec![self.stack.value(0)?, self.stack.value(1)?],
             Load => {
                 let address = self.stack.value(0)?;
@@ -191,8 +195,11 @@ impl Machine {
                 }
                 self.stack.push(Entry::Value(result(number)));
             }
-            Output => {
-                self.write(Kind::Number, atoms[0].number, labels.result)?;
+            Output | OutputTo(_) => {
+                let page = if let OutputTo(page) = command { page } else { 0 };
+                let Atom { number, label } = result(atoms[0].number);
+                self.write(Line { page, kind: Kind::Number, number, label })?;
+                judge.printed(self.place, command);
                 self.stack.pop();
             }
             Pop => {
@@ -237,7 +244,7 @@ impl Machine {
 
     /// What the end of the sheet comes to: its line, or no room for it. It is no step, and no judge is asked.
     fn end(&mut self) -> Stop {
-        match self.write(Kind::End, 0, self.place_label) {
+        match self.write(Line { page: 0, kind: Kind::End, number: 0, label: self.place_label }) {
             Ok(()) => Stop::End,
             Err(stop) => stop,
         }

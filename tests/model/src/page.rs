@@ -1,5 +1,5 @@
 //! The `page` program: from a job's bytes to a page's bytes (document 01, "The page program"; document 02, U1, for the
-//! end line).
+//! end line, and U4, for the page numbers).
 
 use crate::engine::{self, judged, Lent};
 use crate::machine::Kind;
@@ -85,8 +85,8 @@ pub fn page(job: &[u8]) -> String {
     let cleared = lent.lines(&report).into_iter().filter(|line| flows(line.label, job.reader));
     cleared
         .map(|line| match line.kind {
-            Kind::Number => format!("{} {:08x}\n", line.number, line.label),
-            Kind::End => format!("end {:08x}\n", line.label),
+            Kind::Number => format!("{} {} {:08x}\n", line.page, line.number, line.label),
+            Kind::End => format!("{} end {:08x}\n", line.page, line.label),
         })
         .collect()
 }

@@ -1,4 +1,5 @@
-//! Rules: the standard ones, rule tables as trees, and the rule memory's rows (document 01, "Rules", refusals 6 and 7).
+//! Rules: the standard ones, rule tables as trees, and the rule memory's rows (document 01, "Rules", refusals 6 and 7;
+//! document 02, U4, for OutputTo, which is under Output's rule).
 
 use crate::sheet::inputs_of;
 use crate::{flows, Label, Refusal};
@@ -36,7 +37,7 @@ impl Question {
     /// The question whose words these are, if the command supplies just these inputs and all labels are in range.
     pub fn of_words(words: &[i64]) -> Option<Question> {
         let code = u8::try_from(words[0]).ok()?;
-        if !(0x01..=0x0b).contains(&code) {
+        if !(0x01..=0x0c).contains(&code) {
             return None;
         }
         let mut inputs = [None; 3];
@@ -55,14 +56,14 @@ impl Question {
     }
 }
 
-/// The standard rules, as document 01 lists them.
+/// The standard rules, as document 01 lists them; OutputTo is under Output's.
 pub fn standard(question: &Question) -> Option<Labels> {
     let place = question.place;
     let input = |index| question.input(index);
     let (allowed, new_place, result) = match question.code {
         0x01 | 0x02 => (true, place, input(1) | input(2)),
         0x03 => (true, place, 0),
-        0x04 => (true, place, input(1) | place),
+        0x04 | 0x0c => (true, place, input(1) | place),
         0x05 => (true, place, 0),
         0x06 => (true, place, input(1) | input(2)),
         0x07 => (flows(input(1) | place, input(3)), place, input(1) | input(2) | place),
@@ -324,9 +325,15 @@ impl Table {
         out
     }
 
+    /// The rule of the command of this code: its own, or Output's for OutputTo, of which the table has none.
+    pub fn rule(&self, code: u8) -> &Rule {
+        let own = if code == 0x0c { 0x04 } else { code };
+        &self.rules[usize::from(own) - 1]
+    }
+
     /// What the table says of a command.
     pub fn answer(&self, question: &Question) -> Option<Labels> {
-        let rule = &self.rules[usize::from(question.code) - 1];
+        let rule = self.rule(question.code);
         rule.allowed
             .holds(question)
             .then(|| Labels { place: rule.place.label(question), result: rule.result.label(question) })

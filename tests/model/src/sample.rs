@@ -23,8 +23,9 @@ impl Sample {
     /// Tests the code against each command's in turn; a rule's tests leave 0 for yes.
     pub fn of(table: &Table) -> Sample {
         let mut out = Sample::default();
-        for (index, rule) in table.rules.iter().enumerate() {
-            out.put(PUSH, index as i64 + 1);
+        for code in 0x01..=0x0c {
+            let rule = table.rule(code);
+            out.put(PUSH, code.into());
             out.load(0);
             out.put(SUB, 0);
             let other = out.branch();

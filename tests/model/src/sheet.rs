@@ -1,9 +1,12 @@
-//! Sheets: commands and their bytes (document 01, "Commands" and refusals 1 to 3).
+//! Sheets: commands and their bytes (document 01, "Commands" and refusals 1 to 3; document 02, U4, for OutputTo and
+//! refusal 12).
 
 use crate::Refusal;
 
 /// The most commands a sheet may have.
 pub const COMMANDS: usize = 4096;
+/// The pages of a run: their numbers are 0 to 15.
+pub const PAGES: u8 = 16;
 
 #[derive(Clone, Copy, Debug, PartialEq, Eq)]
 pub enum Command {
@@ -18,15 +21,18 @@ pub enum Command {
     Bnz(i16),
     Call,
     Ret,
+    /// Its operand is a page. A sheet that has one over 15 is refused.
+    OutputTo(u8),
 }
 
 use Command::*;
 
 /// Each command once, with operand 0 where it has one.
-pub const EACH: [Command; 11] = [Add, Sub, Pop, Output, Push(0), Load, Store, Jump, Bnz(0), Call, Ret];
+pub const EACH: [Command; 12] =
+    [Add, Sub, Pop, Output, Push(0), Load, Store, Jump, Bnz(0), Call, Ret, OutputTo(0)];
 
 impl Command {
-    /// The command's name, as document 01 spells it.
+    /// The command's name, as documents 01 and 02 spell it.
     pub fn name(self) -> &'static str {
         match self {
             Add => "Add",
@@ -40,10 +46,11 @@ impl Command {
             Bnz(_) => "Bnz",
             Call => "Call",
             Ret => "Ret",
+            OutputTo(_) => "OutputTo",
         }
     }
 
-    /// The command's code on sheets, in rule tables and in the rule memory.
+    /// The command's code on sheets and in the rule memory.
     pub fn code(self) -> u8 {
         match self {
             Add => 0x01,
@@ -57,17 +64,23 @@ impl Command {
             Bnz(_) => 0x09,
             Call => 0x0a,
             Ret => 0x0b,
+            OutputTo(_) => 0x0c,
+        }
+    }
+
+    /// The command's operand, if it has one.
+    pub fn operand(self) -> Option<i64> {
+        match self {
+            Push(number) => Some(number),
+            Bnz(distance) => Some(distance.into()),
+            OutputTo(page) => Some(page.into()),
+            _ => None,
         }
     }
 
     /// The two words of the command space: code, operand or 0.
     pub fn words(self) -> [i64; 2] {
-        let operand = match self {
-            Push(number) => number,
-            Bnz(distance) => distance.into(),
-            _ => 0,
-        };
-        [self.code().into(), operand]
+        [self.code().into(), self.operand().unwrap_or(0)]
     }
 }
 
@@ -75,7 +88,7 @@ impl Command {
 pub fn inputs_of(code: u8) -> usize {
     match code {
         0x05 => 0,
-        0x03 | 0x04 | 0x08 | 0x09 | 0x0a | 0x0b => 1,
+        0x03 | 0x04 | 0x08 | 0x09 | 0x0a | 0x0b | 0x0c => 1,
         0x01 | 0x02 | 0x06 => 2,
         0x07 => 3,
         _ => panic!("code {code} is no command"),
@@ -109,9 +122,13 @@ pub fn decode(sheet: &[u8]) -> Result<Vec<Command>, Refusal> {
             }
             0x0a => (Some(Call), 0),
             0x0b => (Some(Ret), 0),
+            0x0c => (rest.first().map(|&page| OutputTo(page)), 1),
             _ => return Err(Refusal::new(2, offset)),
         };
-        commands.push(command.ok_or(Refusal::new(3, offset))?);
+        match command.ok_or(Refusal::new(3, offset))? {
+            OutputTo(PAGES..) => return Err(Refusal::new(12, offset)),
+            command => commands.push(command),
+        }
         offset += 1 + width;
     }
     Ok(commands)
@@ -125,6 +142,7 @@ pub fn encode(commands: &[Command]) -> Vec<u8> {
         match command {
             Push(number) => bytes.extend(number.to_le_bytes()),
             Bnz(distance) => bytes.extend(distance.to_le_bytes()),
+            OutputTo(page) => bytes.push(*page),
             _ => {}
         }
     }

@@ -1,6 +1,6 @@
-//! Sheets in text: reading and listing (document 02, U3).
+//! Sheets in text: reading and listing (document 02, U3; U4 for OutputTo).
 
-use crate::sheet::{decode, encode, Command, Command::*, COMMANDS, EACH};
+use crate::sheet::{decode, encode, Command, Command::*, COMMANDS, EACH, PAGES};
 use crate::Refusal;
 
 /// What may be wrong with a line.
@@ -46,7 +46,7 @@ pub fn command(line: &[u8]) -> Result<Command, LineFault> {
     let name = words.next().unwrap_or_default();
     let operands: Vec<&str> = words.collect();
     let command = EACH.into_iter().find(|command| command.name() == name).ok_or(LineFault::UnknownName)?;
-    if operands.len() != usize::from(matches!(command, Push(_) | Bnz(_))) {
+    if operands.len() != usize::from(command.operand().is_some()) {
         return Err(LineFault::OperandCount);
     }
     if !operands.iter().all(|word| is_operand(word)) {
@@ -56,6 +56,10 @@ pub fn command(line: &[u8]) -> Result<Command, LineFault> {
     match command {
         Push(_) => operands[0].parse().map(Push).map_err(|_| LineFault::Outside),
         Bnz(_) => operands[0].parse().map(Bnz).map_err(|_| LineFault::Outside),
+        OutputTo(_) => match operands[0].parse::<i64>() {
+            Ok(page) if (0..PAGES.into()).contains(&page) => Ok(OutputTo(page as u8)),
+            _ => Err(LineFault::Outside),
+        },
         _ => Ok(command),
     }
 }
@@ -74,10 +78,9 @@ pub fn read(text: &[u8]) -> Result<Vec<Command>, (LineFault, usize)> {
 
 /// The one normal text of a list of commands.
 pub fn normal(commands: &[Command]) -> String {
-    let line = |command: &Command| match command {
-        Push(number) => format!("{} {number}\n", command.name()),
-        Bnz(distance) => format!("{} {distance}\n", command.name()),
-        _ => format!("{}\n", command.name()),
+    let line = |command: &Command| match command.operand() {
+        Some(operand) => format!("{} {operand}\n", command.name()),
+        None => format!("{}\n", command.name()),
     };
     commands.iter().map(line).collect()
 }

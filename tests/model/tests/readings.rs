@@ -1,10 +1,10 @@
-//! Document 01's readings, starred and unstarred, as document 02's U1 and U2 leave them, and these changes' own cases, on
-//! both engines.
+//! Document 01's readings, starred and unstarred, as document 02's U1, U2 and U4 leave them, and these changes' own
+//! cases, on both engines.
 
 use model::engine::{plain, tagged, Handler, Lent, Report};
 use model::machine::{Kind, Line, Stop};
 use model::page::{page, LINES};
-use model::rules::{standard, Question, Table, STANDARD};
+use model::rules::{standard, LabelTree, Question, Table, YesNoTree, STANDARD};
 use model::sample::Sample;
 use model::sheet::{decode, encode, Command, Command::*};
 use model::{flows, Atom, Label, Refusal};
@@ -19,11 +19,15 @@ struct Run {
 }
 
 fn line(number: i64, label: Label) -> Line {
-    Line { kind: Kind::Number, number, label }
+    line_on(0, number, label)
+}
+
+fn line_on(page: u8, number: i64, label: Label) -> Line {
+    Line { page, kind: Kind::Number, number, label }
 }
 
 fn end(label: Label) -> Line {
-    Line { kind: Kind::End, number: 0, label }
+    Line { page: 0, kind: Kind::End, number: 0, label }
 }
 
 fn run_with(sheet: &[Command], cells: &[Atom], fuel: u64, lines: usize) -> Result<Run, Refusal> {
@@ -88,8 +92,8 @@ fn reading_1() {
     let run = run(&r1());
     assert_eq!(run.lines, [line(12, 1), line(7, 0), end(0)]);
     assert_eq!((run.report.stop, run.report.steps, run.report.lines), (Stop::End, 9, 3));
-    assert_eq!(page(&job(1, &r1())), "12 00000001\n7 00000000\nend 00000000\n");
-    assert_eq!(page(&job(0, &r1())), "7 00000000\nend 00000000\n");
+    assert_eq!(page(&job(1, &r1())), "0 12 00000001\n0 7 00000000\n0 end 00000000\n");
+    assert_eq!(page(&job(0, &r1())), "0 7 00000000\n0 end 00000000\n");
 }
 
 #[test]
@@ -101,7 +105,7 @@ fn readings_2_and_3() {
     let fallen = run_with(&sheet, &cells, 1000, 100).unwrap();
     assert_eq!((fallen.lines, fallen.report.steps), (vec![line(0, 1), line(9, 1), end(1)], 7));
     // The end line is for those whom the branch is for.
-    assert_eq!(page(&job(1, &sheet)), "9 00000001\nend 00000001\n");
+    assert_eq!(page(&job(1, &sheet)), "0 9 00000001\n0 end 00000001\n");
     assert_eq!(page(&job(0, &sheet)), "");
 }
 
@@ -240,36 +244,140 @@ fn no_space_for_the_end_line() {
 }
 
 #[test]
-fn the_shortest_of_three_runs_sets_the_room() {
-    for lengths in [[2, 3, 4], [3, 4, 2], [4, 2, 3], [2, 2, 9]] {
-        let [numbers, line_labels, kinds] = lengths.map(|length| vec![7; length]);
-        let mut lent = Lent { numbers, line_labels, kinds, ..Lent::roomy(&CELLS, 0) };
-        let sheet = encode(&[Push(4), Output]);
+fn the_shortest_of_four_runs_sets_the_room() {
+    for lengths in [[2, 3, 4, 5], [3, 4, 2, 9], [4, 2, 3, 3], [3, 9, 4, 2], [2, 2, 9, 2]] {
+        let [numbers, line_labels, kinds, pages] = lengths.map(|length| vec![7; length]);
+        let mut lent = Lent { numbers, line_labels, kinds, pages, ..Lent::roomy(&CELLS, 0) };
+        let sheet = encode(&[Push(4), OutputTo(3)]);
         let report = plain(&sheet, &mut lent, 10).unwrap();
         assert_eq!((report.stop, report.lines), (Stop::End, 2));
         let laid = |words: [i64; 2], length| [&words[..], &vec![7; length - 2]].concat();
-        let [numbers, line_labels, kinds] = lengths;
+        let [numbers, line_labels, kinds, pages] = lengths;
         assert_eq!(lent.numbers, laid([4, 0], numbers));
         assert_eq!(lent.line_labels, laid([0, 0], line_labels));
         assert_eq!(lent.kinds, laid([0, 1], kinds));
+        assert_eq!(lent.pages, laid([3, 0], pages));
         let before = lent.clone();
         assert!(plain(&sheet, &mut lent, 1_000_001).is_err());
         assert_eq!(lent, before);
         let report = plain(&sheet.repeat(2), &mut lent, 10).unwrap();
         assert_eq!((report.stop, report.place, report.lines), (Stop::OutputFull, 4, 2));
         assert_eq!(lent.kinds, laid([0, 0], kinds));
+        assert_eq!(lent.pages, laid([3, 3], pages));
     }
 }
 
 #[test]
 fn pages_that_are_cut_and_whole() {
     let printing = |count: usize| page(&job(0, &[Push(1), Output].repeat(count)));
-    let lines = |count| "1 00000000\n".repeat(count);
-    assert_eq!(printing(LINES - 1), lines(LINES - 1) + "end 00000000\n");
+    let lines = |count| "0 1 00000000\n".repeat(count);
+    assert_eq!(printing(LINES - 1), lines(LINES - 1) + "0 end 00000000\n");
     assert_eq!(printing(LINES), lines(LINES));
+    // On whichever page a line stands, it takes a line of space.
+    let printing = |count: usize| page(&job(0, &[Push(1), OutputTo(15)].repeat(count)));
+    let lines = |count| "15 1 00000000\n".repeat(count);
+    assert_eq!(printing(LINES - 1), lines(LINES - 1) + "0 end 00000000\n");
+    assert_eq!(printing(LINES), lines(LINES));
+    // The longest page.
+    let cell = [&[0x40][..], &i64::MIN.to_le_bytes(), &[0xff; 4], &[0x42], &[0xff; 4]].concat();
+    let sheet = encode(&[Push(0), Load, OutputTo(15)]).repeat(LINES);
+    let longest = page(&[&cell[..], &[0x43], &sheet].concat());
+    assert_eq!(longest, "15 -9223372036854775808 ffffffff\n".repeat(LINES));
+    assert_eq!(longest.len(), 33_792);
     // Cut by an overflow after a line.
     let sheet = [Push(4), Output, Push(i64::MAX), Push(1), Add, Output];
-    assert_eq!(page(&job(0, &sheet)), "4 00000000\n");
+    assert_eq!(page(&job(0, &sheet)), "0 4 00000000\n");
+}
+
+#[test]
+fn pages_of_lines() {
+    let sheet = [Push(3), OutputTo(15), Push(4), Output, Push(5), OutputTo(0), Push(6), OutputTo(1)];
+    let run = run(&sheet);
+    assert_eq!(run.lines, [line_on(15, 3, 0), line(4, 0), line(5, 0), line_on(1, 6, 0), end(0)]);
+    assert_eq!((run.report.stop, run.report.steps, run.report.depth), (Stop::End, 8, 0));
+    // The page is the operand word; an Output's is 0.
+    assert_eq!(run.lent.program[2..4], [12, 15]);
+    assert_eq!(run.lent.program[6..8], [4, 0]);
+    let printed = "15 3 00000000\n0 4 00000000\n0 5 00000000\n1 6 00000000\n0 end 00000000\n";
+    assert_eq!(page(&job(0, &sheet)), printed);
+    // The end line is on page 0, whatever the last line's is.
+    let all: Vec<Command> = (0..16).flat_map(|page| [Push(7), OutputTo(page)]).collect();
+    let lines: Vec<Line> = (0..16).map(|page| line_on(page, 7, 0)).chain([end(0)]).collect();
+    assert_eq!(self::run(&all).lines, lines);
+}
+
+#[test]
+fn a_line_is_labelled_alike_on_every_page() {
+    // At a public place and, after a branch on owner 0's number, at a hidden one.
+    let sheet = |print| [Push(1), Load, print, Push(3), print, Push(1), Load, Bnz(1), Push(9), print];
+    for to in 0..16 {
+        let lines = [line_on(to, 5, 1), line_on(to, 3, 0), line_on(to, 9, 1), end(1)];
+        assert_eq!(run(&sheet(OutputTo(to))).lines, lines);
+        let public = page(&job(0, &sheet(OutputTo(to))));
+        assert_eq!(public, format!("{to} 3 00000000\n"));
+    }
+    assert_eq!(run(&sheet(Output)).lines, [line(5, 1), line(3, 0), line(9, 1), end(1)]);
+}
+
+#[test]
+fn stops_at_output_to() {
+    assert_eq!(stop_and_lines(&[OutputTo(1)], 9), (Stop::ValueMissing, vec![]));
+    assert_eq!(stop_and_lines(&[Push(1), Push(3), Call, Pop, OutputTo(1)], 9), (Stop::ValueMissing, vec![]));
+    let full = run_with(&[Push(1), OutputTo(2), Push(3), OutputTo(4)], &CELLS, 9, 1).unwrap();
+    let report = full.report;
+    assert_eq!((report.stop, report.steps, report.place, report.depth), (Stop::OutputFull, 3, 3, 1));
+    assert_eq!(full.lines, [line_on(2, 1, 0)]);
+    // The rule was asked before the room.
+    assert_eq!(full.lent.rule_memory, [12, 0, 0, -1, -1, 0, 0]);
+}
+
+#[test]
+fn output_to_has_a_row_of_its_own() {
+    let twice = |one, two| {
+        let run = run(&[Push(1), Push(2), Push(3), Pop, one, two]);
+        (run.report.faults, run.lent.rule_memory)
+    };
+    // Faults of the first Push and of Pop; then a print of the same page, of another page, and the other print.
+    assert_eq!(twice(OutputTo(3), OutputTo(3)), (3, vec![12, 0, 0, -1, -1, 0, 0]));
+    assert_eq!(twice(OutputTo(3), OutputTo(4)), (3, vec![12, 0, 0, -1, -1, 0, 0]));
+    assert_eq!(twice(Output, Output), (3, vec![4, 0, 0, -1, -1, 0, 0]));
+    assert_eq!(twice(Output, OutputTo(0)), (4, vec![12, 0, 0, -1, -1, 0, 0]));
+    assert_eq!(twice(OutputTo(0), Output), (4, vec![4, 0, 0, -1, -1, 0, 0]));
+    for code in [4, 12] {
+        assert!(start_with_rule_memory([code, 1, 2, -1, -1, 1, 3]).is_ok());
+        for wrong in [[code, 1, 2, -1, -1, 1, 2], [code, 1, 2, 0, -1, 1, 3], [code, 1, -1, -1, -1, 1, 1]] {
+            assert_eq!(start_with_rule_memory(wrong), Err(Refusal::new(7, 0)));
+        }
+    }
+    for code in [13, 14, 268, -4] {
+        assert_eq!(start_with_rule_memory([code, 1, 2, -1, -1, 1, 3]), Err(Refusal::new(7, 0)));
+    }
+}
+
+#[test]
+fn output_to_is_under_outputs_rule() {
+    // Output only of public numbers.
+    let mut table = Table::parse(&STANDARD).unwrap();
+    table.rules[3].allowed = YesNoTree::Flows(LabelTree::Input(1), LabelTree::Empty);
+    let bytes = table.bytes();
+    let sample = Sample::of(&table);
+    let run = |cell, print| {
+        let mut lent = Lent::roomy(&CELLS, 5);
+        let run = tagged(&encode(&[Push(cell), Load, print]), &bytes, sample.handler(), &mut lent, 10);
+        assert_eq!(run.wrong, None);
+        let report = run.answer.unwrap();
+        (report.stop, lent.lines(&report), lent.rule_memory)
+    };
+    assert_eq!(run(0, Output), (Stop::End, vec![line(7, 0), end(0)], vec![4, 0, 0, -1, -1, 0, 0]));
+    assert_eq!(
+        run(0, OutputTo(9)),
+        (Stop::End, vec![line_on(9, 7, 0), end(0)], vec![12, 0, 0, -1, -1, 0, 0])
+    );
+    assert_eq!(run(1, Output), (Stop::NotAllowed, vec![], vec![4, 0, 1, -1, -1, -1, -1]));
+    assert_eq!(run(1, OutputTo(9)), (Stop::NotAllowed, vec![], vec![12, 0, 1, -1, -1, -1, -1]));
+    // The table has rules for 01 to 0b, and none for 0c.
+    let longer = [&STANDARD[..], &STANDARD[13..18]].concat();
+    assert_eq!(Table::parse(&longer).err(), Some(Refusal::new(6, 55)));
 }
 
 fn start_with_rule_memory(memory: [i64; 7]) -> Result<Report, Refusal> {
@@ -322,9 +430,16 @@ fn sheets_refused() {
     assert_eq!(refused(&[3; 4097]), Refusal::new(1, 4096));
     assert_eq!(refused(&[[3; 4096].as_slice(), &[0xff]].concat()), Refusal::new(1, 4096));
     assert_eq!(refused(&[3, 0]), Refusal::new(2, 1));
-    assert_eq!(refused(&[3, 0x0c]), Refusal::new(2, 1));
+    assert_eq!(refused(&[3, 0x0d]), Refusal::new(2, 1));
     assert_eq!(refused(&[3, 5, 1, 2, 3, 4, 5, 6, 7]), Refusal::new(3, 1));
     assert_eq!(refused(&[9, 1]), Refusal::new(3, 0));
+    assert_eq!(refused(&[3, 0x0c]), Refusal::new(3, 1));
+    assert_eq!(refused(&[3, 0x0c, 16]), Refusal::new(12, 1));
+    assert_eq!(refused(&[0x0c, 0xff, 0, 5]), Refusal::new(12, 0));
+    assert_eq!(refused(&[0x0c, 15, 0, 0x0c, 16]), Refusal::new(2, 2));
+    assert_eq!(refused(&[[3; 4096].as_slice(), &[0x0c, 16]].concat()), Refusal::new(1, 4096));
+    assert_eq!(refused(&[[3; 4095].as_slice(), &[0x0c, 16, 3]].concat()), Refusal::new(12, 4095));
+    assert_eq!(decode(&[0x0c, 0, 0x0c, 15]).unwrap(), [OutputTo(0), OutputTo(15)]);
     assert_eq!(decode(&[3; 4096]).unwrap().len(), 4096);
     assert_eq!(decode(&[9, 0xfe, 0xff]).unwrap(), [Bnz(-2)]);
 }
@@ -404,21 +519,23 @@ fn jobs() {
     assert_eq!(page(&[0x41, 1, 0, 0, 0, 0x44]), "job 5\n");
     assert_eq!(page(&vec![0x43; 65_537]), "job 65536\n");
     assert_eq!(page(&[0x43, 0]), "refused 2 0\n");
+    assert_eq!(page(&[0x43, 3, 0x0c, 16]), "refused 12 1\n");
+    assert_eq!(page(&[0x41, 0x41, 0x42, 0x0f, 0, 0x43, 0x0c, 16]), "refused 12 0\n");
     assert_eq!(page(&[0x41, 0x41, 0x42, 0x0f, 0, 0x43]), "refused 9 0\n");
-    assert_eq!(page(&[0x41, 0x40, 0x42, 0x0f, 0, 0x43]), "end 00000000\n");
+    assert_eq!(page(&[0x41, 0x40, 0x42, 0x0f, 0, 0x43]), "0 end 00000000\n");
     let cell = [0x40, 0, 0, 0, 0, 0, 0, 0, 0, 0, 0, 0, 0];
-    assert_eq!(page(&[&cell.repeat(1024)[..], &[0x43]].concat()), "end 00000000\n");
+    assert_eq!(page(&[&cell.repeat(1024)[..], &[0x43]].concat()), "0 end 00000000\n");
     assert_eq!(page(&[&cell.repeat(1025)[..], &[0x43]].concat()), "job 13312\n");
     // The last 41 and 42 hold.
     let mut twice = vec![0x42, 1, 0, 0, 0];
     twice.extend(job(0, &r1()));
-    assert_eq!(page(&twice), "7 00000000\nend 00000000\n");
+    assert_eq!(page(&twice), "0 7 00000000\n0 end 00000000\n");
 }
 
 #[test]
 fn the_standard_table_is_the_standard_rules() {
     let table = Table::parse(&STANDARD).unwrap();
-    for code in 0x01..=0x0b {
+    for code in 0x01..=0x0c {
         let inputs = model::sheet::inputs_of(code);
         for bits in 0..256u32 {
             let part = |index: u32| bits >> (2 * index) & 3;

@@ -15,7 +15,7 @@ use Rattle.word.specs.Wrap.{Signed}
 use Rattle.word.specs.declared.exact.Exact.the-variants.{Number, Outside}
 use Rattle.word.specs.Exact.{isSigned, exactly}
 use Rattle.program.specs.declared.Command.{Command}
-use Rattle.program.specs.declared.Command.the-variants.{Add, Sub, Pop, Output, Push, Load, Store, Jump, Bnz, Call, Ret}
+use Rattle.program.specs.declared.Command.the-variants.{Add, Sub, Pop, Output, Push, Load, Store, Jump, Bnz, Call, Ret, OutputTo}
 use Rattle.machine.specs.Atom.{Atom, Entry, value, frame, numberLine}
 use Rattle.machine.specs.State.{State, overflow, outputFull, stackFull}
 use Rattle.machine.specs.Step.{Outcome, Request, provided, stackLimit, making, request, atom, next, printing, branch}
@@ -146,7 +146,7 @@ module _ {room : ℕ} {o₀ : Memory.Output} {s : State} {l : Lent} {o : Memory.
   sub-looks = making-looks Sub _-ℤ_ (λ p label. refl)
 
   -- ══════════════════════════════════════════════════════════════════════════════════════════
-  -- Pop, Output and Push
+  -- Pop, Output, OutputTo and Push
   -- ══════════════════════════════════════════════════════════════════════════════════════════
 
   pub pop-looks : Found Pop
@@ -156,12 +156,13 @@ module _ {room : ℕ} {o₀ : Memory.Output} {s : State} {l : Lent} {o : Memory.
       (rw e, λ p _. goto-carried room r _ rest (rw (e, dropped-entry) (following-next _ _ _ _ p on)) (under-one e))))
 
   -- the line is written where there is room
-  line-written : (a : Atom) (rest : List Entry) (p label : ℕ) (b : Bool) → s .stack ≡ value a ∷ rest → ltb (length (s .lines)) room ≡ b
-      → Sim (provided b outputFull (printing s p rest (numberLine (a .number) label)))
-      (after (outputEffect p label (machineOf s) (l .stack)) l)
+  line-written : (page : ℤ) (a : Atom) (rest : List Entry) (p label : ℕ) (b : Bool) → s .stack ≡ value a ∷ rest
+      → ltb (length (s .lines)) room ≡ b
+      → Sim (provided b outputFull (printing s p rest (numberLine page (a .number) label)))
+      (after (outputEffect p label (machineOf s) page (l .stack)) l)
   unfolding outputEffect emitOf writeOf
-  line-written a rest p label false e t = (rw t, refl)
-  line-written a rest p label true e t =
+  line-written page a rest p label false e t = (rw t, refl)
+  line-written page a rest p label true e t =
       let fits : length (s .lines) < room = ltb-true _ _ t in
       rw (t, first-is, e) (
         refl,
@@ -169,7 +170,7 @@ module _ {room : ℕ} {o₀ : Memory.Output} {s : State} {l : Lent} {o : Memory.
           machine = rw (dropped-entry, following-next _ _ _ _ p on, printed-line _ _ _ _ room fits, length-append, add-one);
           stack = under-one e;
           cells = r .cells;
-          output = line-at (s .lines) (numberLine (a .number) label) o o₀ (r .output) (omega (arith, h .fits));
+          output = line-at (s .lines) (numberLine page (a .number) label) o o₀ (r .output) (omega (arith, h .fits));
         },
         under-one e,
       )
@@ -178,7 +179,13 @@ module _ {room : ℕ} {o₀ : Memory.Output} {s : State} {l : Lent} {o : Memory.
   unfolding request findOf oneValue effectOf
   output-looks =
       rw first-is (value-needed (Asks Output) (s .stack) _ _ _ refl (λ a rest e.
-      (rw e, λ p label. line-written a rest p label (ltb (length (s .lines)) room) e refl)))
+      (rw e, λ p label. line-written (pos 0) a rest p label (ltb (length (s .lines)) room) e refl)))
+
+  pub output-to-looks : (page : ℤ) → Found (OutputTo page)
+  unfolding request findOf oneValue effectOf
+  output-to-looks page =
+      rw first-is (value-needed (Asks (OutputTo page)) (s .stack) _ _ _ refl (λ a rest e.
+      (rw e, λ p label. line-written page a rest p label (ltb (length (s .lines)) room) e refl)))
 
   pub push-looks : (n : ℤ) → Found (Push n)
   unfolding request findOf effectOf pushEffect

@@ -54,4 +54,5 @@ line-at lines l o o₀ e h =
       line-laid (λ x. x .number) lines l (o₀ .numbers) (ap (λ (x : Output). x .numbers) e) (omega arith),
       line-laid (λ x. pos (x .label)) lines l (o₀ .labels) (ap (λ (x : Output). x .labels) e) (omega arith),
       line-laid (λ x. kindWord (x .kind)) lines l (o₀ .kinds) (ap (λ (x : Output). x .kinds) e) (omega arith),
+      line-laid (λ x. x .page) lines l (o₀ .pages) (ap (λ (x : Output). x .pages) e) (omega arith),
     )

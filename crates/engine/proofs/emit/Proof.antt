@@ -11,13 +11,15 @@ use Rattle.engine.proofs.emit.Tie as tie
 returns : tie.Need-returns
 unfolding emitOf
 returns c =
-    let at-write = c .before .before .before in
-    let at-told = at-write .before .before .before .before .before in
-    let at-if = at-told .before in
+    let at-write = c .before .before .before .before in
+    let at-number = at-write .before .before .before .before .before .before in
+    let at-page = at-number .before in
+    let at-if = at-page .before in
     rw (
       eq-eqb _ _ (at-if .if1 .taken),
       at-write .write .ensures,
-      back-ok (at-if .before .before .args .r .number) (omega (arith, at-told .struct-told .given)),
+      back-ok (at-if .before .before .args .r .page) (omega (arith, at-page .struct-told .given)),
+      back-ok (at-if .before .before .args .r .number) (omega (arith, at-number .struct-told2 .given)),
     )
 
 returns-2 : tie.Need-returns-2
@@ -29,6 +31,7 @@ emit-spec =
     tie.close
     (tie.spec
     (λ c κs. search needs)
+    (λ c. search needs)
     (λ c. search needs)
     (λ c. search needs)
     (λ c. search needs)

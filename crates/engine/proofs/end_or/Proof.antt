@@ -9,8 +9,8 @@ use Rattle.engine.proofs.end_or.Tie as tie
 returns : tie.Need-returns
 unfolding endOr
 returns c =
-    let at-write = c .before .before .before in
-    let test = at-write .before .before .before .before .before in
+    let at-write = c .before .before .before .before in
+    let test = at-write .before .before .before .before .before .before in
     rw (sym (test .before .at-end .ensures) ∙ test .if1 .taken) (at-write .write .ensures)
 
 returns-2 : tie.Need-returns-2
@@ -23,6 +23,7 @@ end-or-spec =
     (tie.spec
     (λ c κs. search needs)
     (λ c κs. search needs)
+    (λ c. search needs)
     (λ c. search needs)
     (λ c. search needs)
     (λ c. search needs)

@@ -7,12 +7,15 @@ use Rattle.engine.proofs.line_at.Tie as tie
 
 returns : tie.Need-returns
 returns c =
-    let kind = c .before .at3 in
-    let low = c .before .before .low in
-    let label = c .before .before .before .at2 in
-    let number = c .before .before .before .before .at in
+    let at-kind = c .before in
+    let kind = at-kind .before .at3 in
+    let low = at-kind .before .before .low in
+    let label = at-kind .before .before .before .at2 in
+    let number = at-kind .before .before .before .before .at in
     rw (
-      c .kind-of .ensures,
+      back-ok (c .at4 .result) (c .at4 .ok),
+      c .at4 .ensures,
+      at-kind .kind-of .ensures,
       back-ok (kind .result) (kind .ok),
       kind .ensures,
       low .ensures,
@@ -26,6 +29,7 @@ pub line-at-spec : {M : Type 1} → statement M
 line-at-spec =
     tie.close
     (tie.spec
+    (λ c κs. search needs)
     (λ c κs. search needs)
     (λ c κs. search needs)
     (λ c κs. search needs)

@@ -11,7 +11,8 @@ use Rattle.engine.proofs.write.Tie as tie
 returns : tie.Need-returns
 unfolding writeOf
 returns c =
-    let at-kind = c .before .before .before in
+    let at-page = c .before .before in
+    let at-kind = at-page .before .before .before .before .before in
     let at-put2 = at-kind .before .before .before in
     let at-word = at-put2 .before in
     let at-put = at-word .before .before .before in
@@ -20,9 +21,11 @@ returns c =
     rw (
       lt-ltb _ _ (at-if .if1 .taken),
       c .print .ensures,
-      c .before .before .put3 .ensures,
+      at-page .put4 .ensures,
+      at-page .before .before .before .before .put3 .ensures,
       at-put2 .put2 .ensures,
       at-put .put .ensures,
+      back-ok (at-if .before .args .line .page) (omega (arith, at-page .before .struct-told2 .given)),
       back-ok (at-if .before .args .line .number) (omega (arith, at-told .struct-told .given)),
       back-ok (at-word .word .result) (at-word .word .ok),
       at-word .word .ensures,
@@ -44,6 +47,8 @@ write-spec =
     (λ c κs. search needs)
     (λ c κs. search needs)
     (λ c κs. search needs)
+    (λ c κs. search needs)
+    (λ c. search needs)
     (λ c. search needs)
     (λ c. search needs)
     (λ c. search needs)

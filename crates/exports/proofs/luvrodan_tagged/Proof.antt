@@ -9,8 +9,8 @@ returns : tie.Need-returns
 returns c =
     let l = c .before .before in
     let left = l .before in
-    let e = left .before .before .before .before .before .before .before .before .before in
-    let g = e .before .before .before .before .before .before .before .before .before in
+    let e = left .before .before .before .before .before .before .before .before .before .before in
+    let g = e .before .before .before .before .before .before .before .before .before .before in
     let x = e .execute .ensures in (
       tagged-left _ _ _ _ _ _ _ _ (e .execute .result) (g .given .result .words) _ _
           (c .of-answer .ensures) (g .given .ensures) (l .leave .ensures) (x .0),
@@ -25,6 +25,7 @@ luvrodan-tagged-spec =
     (λ c κs. search needs)
     (λ c κs. search needs)
     (λ c κs. search needs)
+    (λ c. search needs)
     (λ c. search needs)
     (λ c. search needs)
     (λ c. search needs)

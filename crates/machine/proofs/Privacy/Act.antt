@@ -10,16 +10,17 @@ use lib.Dec.{ltb}
 use Rattle.word.specs.Exact.{isSigned}
 use Rattle.label.specs.Label.{join, flows}
 use Rattle.program.specs.declared.Command.{Command}
-use Rattle.program.specs.declared.Command.the-variants.{Add, Sub, Pop, Output, Push, Load, Store, Jump, Bnz, Call, Ret}
+use Rattle.program.specs.declared.Command.the-variants.{Add, Sub, Pop, Output, Push, Load, Store, Jump, Bnz, Call, Ret, OutputTo}
 use Rattle.machine.specs.Atom.{Atom, Entry}
 use Rattle.machine.specs.Rule.{missing, allowed, allowedIf, standard}
 use Rattle.machine.specs.State.{State, Stop, overflow, outputFull, stackFull}
 use Rattle.machine.specs.Step.{Outcome, stepped, stackLimit, provided, Request, withValue, withValues, withFrame}
-use Rattle.machine.specs.Step.{withCell, of, keyOf, decide, consult, making, request, execute, atom, branch, storing}
+use Rattle.machine.specs.Step.{withCell, of, keyOf, decide, consult, making, outputting, request, execute, atom, branch, storing}
 use Rattle.machine.proofs.Request.{At, value-all, values-all, frame-all, cell-all, provided-all}
 use Rattle.machine.proofs.Step.{Gives}
 use Rattle.machine.proofs.Privacy.Seen.{Seen, see, joined, see-one, see-both, see-bottom}
-use Rattle.machine.proofs.Privacy.Erasure.{View, Slot, slot, erase, pull, pulls, unwind, first, second, increment, lineOf, make, act}
+use Rattle.machine.proofs.Privacy.Erasure.{View, Slot, slot, erase, pull, pulls, unwind, first, second, increment, lineOf, make, prints}
+use Rattle.machine.proofs.Privacy.Erasure.{act}
 use Rattle.machine.proofs.Privacy.Effect.{see-cell, see-stored, view-append, see-line}
 
 -- ════════════════════════════════════════════════════════════════════════════════════════════
@@ -73,15 +74,27 @@ making-shows S c s f e =
     (provided-shows S (isSigned 64 (f (a .number) (b .number))) overflow _ _
     (rw (see-one S increment (s .pc), see-both S f a b))))
 
+-- a line on a page, labelled by the join of the value's label and the place's
+outputting-shows : (S room : ℕ) (c : Command) (s : State) (page : ℤ)
+    → ((a : Atom) → standard (keyOf c s (of a) missing missing) ≡ allowed (s .pc .label) (join (a .label) (s .pc .label)))
+    → Shows S c s (prints (erase S s) page) (outputting room s page)
+outputting-shows S room c s page e =
+    value-shows S c s _ (s .stack) _ _ (λ a rest.
+    rw (e a)
+    (provided-shows S (ltb (length (s .lines)) room) outputFull _ _
+    (rw (
+      see-one S increment (s .pc),
+      view-append,
+      see-line S (lineOf page) (joined first a (s .pc)) refl,
+      see-both S first a (s .pc),
+    ))))
+
 pub act-shows : (S room : ℕ) (c : Command) (s : State) → Gives (λ t. erase S t ≡ act c (erase S s)) (execute standard room c s)
 unfolding execute request standard act
 act-shows S room Add s = making-shows S Add s _+ℤ_ (λ a b. refl)
 act-shows S room Sub s = making-shows S Sub s _-ℤ_ (λ a b. refl)
 act-shows S room Pop s = value-shows S Pop s _ (s .stack) _ _ (λ a rest. rw (see-one S increment (s .pc)))
-act-shows S room Output s =
-    value-shows S Output s _ (s .stack) _ _ (λ a rest.
-    provided-shows S (ltb (length (s .lines)) room) outputFull _ _
-    (rw (see-one S increment (s .pc), view-append, see-line S lineOf (joined first a (s .pc)) refl, see-both S first a (s .pc))))
+act-shows S room Output s = outputting-shows S room Output s (pos 0) (λ a. refl)
 act-shows S room (Push n) s =
     provided-shows S (ltb (length (s .stack)) stackLimit) stackFull _ _ (rw (see-one S increment (s .pc), see-bottom S n))
 act-shows S room Load s =
@@ -98,3 +111,4 @@ act-shows S room (Bnz n) s =
 act-shows S room Call s =
     values-shows S Call s _ (s .stack) _ _ (λ a b rest. rw (see-one S increment (s .pc), see-both S first a (s .pc)))
 act-shows S room Ret s = frame-shows S Ret s _ (s .stack) _ _ (λ a rest. refl)
+act-shows S room (OutputTo page) s = outputting-shows S room (OutputTo page) s page (λ a. refl)

@@ -9,7 +9,7 @@ use mathlib.Core.Option.{Option, none, some}
 use Rattle.word.specs.Choose.{choose}
 use Rattle.label.specs.Label.{bottom}
 use Rattle.program.specs.declared.Command.{Command}
-use Rattle.program.specs.declared.Command.the-variants.{Add, Sub, Pop, Output, Push, Load, Store, Jump, Bnz, Call, Ret}
+use Rattle.program.specs.declared.Command.the-variants.{Add, Sub, Pop, Output, Push, Load, Store, Jump, Bnz, Call, Ret, OutputTo}
 use Rattle.machine.specs.Atom.{Atom, Entry, value, frame, Line, numberLine, endLine}
 use Rattle.machine.specs.State.{State}
 use Rattle.machine.specs.Step.{atom, branch}
@@ -80,9 +80,9 @@ abbrev pub changed : List Seen → Seen → Seen → List Seen
 changed cells (shown a) x = changedAt cells (a .number) x
 changed cells unseen x = cells
 
--- the line that is written, if it is seen: of an atom that an Output drops, and of the place at the end
-abbrev pub lineOf : Atom → Line
-lineOf a = numberLine (a .number) (a .label)
+-- the line that is written, if it is seen: of an atom that is dropped for a page, and of the place at the end
+abbrev pub lineOf : ℤ → Atom → Line
+lineOf page a = numberLine page (a .number) (a .label)
 
 abbrev pub endOf : Atom → Line
 endOf p = endLine (p .label)
@@ -111,12 +111,15 @@ moveTo v p stack = record { pc = p; stack = stack; memory = v .memory; lines = v
 abbrev pub onward : View → List Slot → View
 onward v stack = moveTo v (following (v .pc)) stack
 
--- Store's effect, with the address and what it stores; Output's, with its line
+-- Store's effect, with the address and what it stores; Output's and OutputTo's, with the page and the line
 abbrev pub storeTo : View → List Slot → Seen → Seen → View
 storeTo v stack x y = record { pc = following (v .pc); stack = stack; memory = changed (v .memory) x y; lines = v .lines }
 
-abbrev pub print : View → List Slot → Seen → View
-print v stack x = record { pc = following (v .pc); stack = stack; memory = v .memory; lines = v .lines ++ written lineOf x }
+abbrev pub print : View → ℤ → List Slot → Seen → View
+print v page stack x = record { pc = following (v .pc); stack = stack; memory = v .memory; lines = v .lines ++ written (lineOf page) x }
+
+abbrev pub prints : View → ℤ → View
+prints v page = pull v (v .stack) (λ x rest. print v page rest (both first x (v .pc)))
 
 -- Add's and Sub's: the whole number made of the two values on top
 abbrev pub make : View → (ℤ → ℤ → ℤ) → View
@@ -126,8 +129,7 @@ unfoldable pub act : Command → View → View
 act Add v = make v _+ℤ_
 act Sub v = make v _-ℤ_
 act Pop v = pull v (v .stack) (λ x rest. onward v rest)
-act Output v =
-    pull v (v .stack) (λ x rest. print v rest (both first x (v .pc)))
+act Output v = prints v (pos 0)
 act (Push n) v = onward v (holds (shown (atom n bottom)) ∷ v .stack)
 act Load v = pull v (v .stack) (λ x rest. onward v (holds (both second x (cell (v .memory) x)) ∷ rest))
 act Store v =
@@ -137,6 +139,7 @@ act (Bnz n) v = pull v (v .stack) (λ x rest. moveTo v (both (λ m place. branch
 act Call v =
     pulls v (v .stack) (λ x y rest. moveTo v (both first x (v .pc)) (holds y ∷ returns (following (v .pc)) ∷ rest))
 act Ret v = unwind v (v .stack) (λ x rest. moveTo v x rest)
+act (OutputTo page) v = prints v page
 
 -- ════════════════════════════════════════════════════════════════════════════════════════════
 -- Runs on views. While the place is not seen, neither is the stack above the topmost frame that is seen

@@ -7,18 +7,18 @@ use mathlib.Core.Bool.{Bool, true, false}
 use mathlib.Core.List.{List, [], _∷_, _++_, append-nil, append-assoc}
 use Prim.Native.Nat.{ℕ, zero, suc}
 use lib.Seq.{take-append-seam}
-use lib.IntN.{ℤ}
+use lib.IntN.{ℤ, pos}
 use lib.ListN.{length}
 use Rattle.word.specs.Choose.{choose}
 use mathlib.Core.Option.{Option, none, some}
 use Rattle.program.specs.declared.Command.{Command}
-use Rattle.program.specs.declared.Command.the-variants.{Add, Sub, Pop, Output, Push, Load, Store, Jump, Bnz, Call, Ret}
+use Rattle.program.specs.declared.Command.the-variants.{Add, Sub, Pop, Output, Push, Load, Store, Jump, Bnz, Call, Ret, OutputTo}
 use Rattle.machine.specs.Atom.{Atom, Line}
 use Rattle.machine.specs.Claim.{Start, OneStartsOther}
 use Rattle.machine.specs.Run.{atEnd, commandAt}
 use Rattle.machine.proofs.Privacy.Seen.{Seen, shown, unseen, showIf, both}
 use Rattle.machine.proofs.Privacy.Erasure.{View, Slot, holds, returns, pull, pulls, unwind, moveTo, first, lineOf, endOf, written}
-use Rattle.machine.proofs.Privacy.Erasure.{act, cut, trim, actSome, close, actAt, actHere, move, moves}
+use Rattle.machine.proofs.Privacy.Erasure.{prints, act, cut, trim, actSome, close, actAt, actHere, move, moves}
 
 -- what a command does with the values on top, which stand above every frame
 pull-all : (P : View → Type 0) (v : View) (es : List Slot) (k : Seen → List Slot → View)
@@ -77,6 +77,7 @@ module _ (es : List Slot) (cells : List Seen) (ls : List Line) where
   act-quiet (Bnz n) = pull-quiet _ (λ x rest e. rw e)
   act-quiet Call = pulls-quiet _ (λ x y rest e. rw e)
   act-quiet Ret = unwind-quiet es
+  act-quiet (OutputTo page) = pull-quiet _ (λ x rest e. rw (e, append-nil))
 
 -- what holds of a view and of what each command and the end make of it holds of what the place makes of it
 module _ (P : View → Type 0) (v : View) (stays : P v) (closes : P (close v)) (acts : (c : Command) → P (act c v)) where
@@ -137,12 +138,15 @@ module _ (v : View) where
   unwind-adds (holds x ∷ rest) k f = kept v refl
   unwind-adds (returns x ∷ rest) k f = kept (k x rest) (f x rest)
 
+  prints-adds : (page : ℤ) → Grown (prints v page)
+  prints-adds page = pull-adds _ (λ x rest. (written (lineOf page) (both first x (v .pc)), refl))
+
   act-adds : (c : Command) → Grown (act c v)
   unfolding act
   act-adds Add = pulls-adds _ (λ x y rest. refl)
   act-adds Sub = pulls-adds _ (λ x y rest. refl)
   act-adds Pop = pull-adds _ (λ x rest. adds-none (v .lines) _ refl)
-  act-adds Output = pull-adds _ (λ x rest. (written lineOf (both first x (v .pc)), refl))
+  act-adds Output = prints-adds (pos 0)
   act-adds (Push n) = adds-none (v .lines) _ refl
   act-adds Load = pull-adds _ (λ x rest. adds-none (v .lines) _ refl)
   act-adds Store = pulls-adds _ (λ x y rest. refl)
@@ -150,6 +154,7 @@ module _ (v : View) where
   act-adds (Bnz n) = pull-adds _ (λ x rest. adds-none (v .lines) _ refl)
   act-adds Call = pulls-adds _ (λ x y rest. refl)
   act-adds Ret = unwind-adds (v .stack) _ (λ x rest. refl)
+  act-adds (OutputTo page) = prints-adds page
 
   move-adds : (cs : List Command) → Grown (move cs v)
   unfolding move

@@ -30,7 +30,7 @@ use Rattle.plain.proofs.execute.Tie as tie
 abbrev lentMemory : tie.Start → Memory
 lentMemory s =
     memory (now (s .args .program)) (lent (now (s .args .stack)) (cells (now (s .args .values)) (now (s .args .labels))))
-    (output (now (s .args .numbers)) (now (s .args .line-labels)) (now (s .args .kinds)))
+    (output (now (s .args .numbers)) (now (s .args .line-labels)) (now (s .args .kinds)) (now (s .args .pages)))
 
 -- the sheet is accepted
 module _ (k : tie.After-checked2) where
@@ -61,7 +61,7 @@ module _ (k : tie.After-checked2) where
 
 go-requires : tie.Need-go-requires
 go-requires c κs =
-    let at-room = c .before .before .before .before .before .before .before in
+    let at-room = c .before .before .before .before .before .before .before .before in
     let at-write = at-room .before .before in
     let k = at-write .before .before .before in (
       rw (same-count k) (few _ (lentMemory (start k)) _ noneOwn (bytes k) (commands k) (fine k)),
@@ -82,8 +82,8 @@ returns c =
 returns-2 : tie.Need-returns-2
 unfolding plain
 returns-2 c =
-    let at-go = c .before .before .before .before .before .before in
-    let at-room = at-go .before .before .before .before .before .before .before .before in
+    let at-go = c .before .before .before .before .before .before .before in
+    let at-room = at-go .before .before .before .before .before .before .before .before .before in
     let at-write = at-room .before .before in
     let k = at-write .before .before .before in
     let s = start k in
@@ -95,7 +95,7 @@ returns-2 c =
     (fine k .program) in
     loop-whole (now (s .args .sheet)) m (s .args .fuel) noneOwn (bytes k) (commands k) (fine k) standardRuler (fixed standard)
     standard-follows (λ u. standard-range) tt (count k) (same-count k) (at-write .write .last .1 .0) written
-    (done (at-go .go .result) tt (lent (x .0) (cells (x .1 .0) (x .1 .1 .0))) (output (o .0) (o .1 .0) (o .1 .1 .0)))
+    (done (at-go .go .result) tt (lent (x .0) (cells (x .1 .0) (x .1 .1 .0))) (output (o .0) (o .1 .0) (o .1 .1 .0) (o .1 .1 .1 .0)))
     (rw (at-room .room .ensures) at (at-go .go .ensures))
     ∙ sym (ap (λ d. engineOf (fixed standard) d tt m (s .args .fuel)) (accepts k))
 
@@ -112,6 +112,7 @@ execute-spec =
     go-requires
     (λ c. search needs)
     returns
+    (λ c. search needs)
     (λ c. search needs)
     (λ c. search needs)
     (λ c. search needs)

@@ -2,12 +2,18 @@
 -- The measure is what is left of the bytes. Assumes nothing.
 use borrow.Author.Needs.{needs}
 use native.Mathlib.Omega.{arith}
-use mathlib.Core.Path.{_∙_, sym}
-use Prim.Native.Nat.{_-_}
+use mathlib.Core.Bool.{Bool}
+use mathlib.Core.Path.{_≡_, _∙_, sym, ap}
+use Prim.Native.Nat.{ℕ, _-_, _<_}
 use denote.Ref.{now}
-use lib.ListN.{length}
+use lib.ListN.{length, getD}
+use Rattle.word.proofs.Signed.{back-ok}
+use Rattle.program.specs.declared.Fetched.the-variants.{Is}
+use Rattle.program.specs.Command.{opcodeOf}
+use Rattle.program.specs.Decode.{commandLimit}
+use Rattle.program.specs.Fetch.{permitsOf, fetchOf}
 use Rattle.program.proofs.Checking.{Invariant, invariant-start, invariant-end, invariant-limit, invariant-unknown}
-use Rattle.program.proofs.Checking.{invariant-cut, invariant-next, invariant-forward}
+use Rattle.program.proofs.Checking.{invariant-cut, invariant-outside, invariant-next, invariant-forward}
 use Rattle.program.proofs.check.Statement.{statement}
 use Rattle.program.proofs.check.Tie as tie
 
@@ -26,49 +32,78 @@ returns c =
     invariant-limit (now (l .before .before .args .bytes)) (l .loop .at) (l .loop .count) (l .loop .inv) (c .before .loop-test .taken)
     (c .if1 .taken)
 
+-- a command was fetched, or none
+module _ (f : tie.After-fetch Inv-loop μ-loop) where
+  abbrev head : tie.At-loop Inv-loop μ-loop
+  head = f .before .before .before .before .before
+
+  abbrev start : tie.Start Inv-loop μ-loop
+  start = head .before .before
+
+  taken : head .loop .at < length (now (start .args .bytes))
+  taken = f .before .before .before .before .loop-test .taken
+
+  more : head .loop .count ≡ commandLimit → ⊥
+  more = f .before .before .before .if1 .left
+
+-- a command was fetched
+module _ (c : tie.After-permits Inv-loop μ-loop) where
+  abbrev at-fetch : tie.After-fetch Inv-loop μ-loop
+  at-fetch = c .before .before .before .before
+
+  abbrev code : ℕ
+  code = getD (now (start at-fetch .args .bytes)) (head at-fetch .loop .at) 0
+
+  is : fetchOf (now (start at-fetch .args .bytes)) (head at-fetch .loop .at)
+      ≡ Is (c .before .before .fetched .given .0 .0) (c .before .before .fetched .given .0 .1 .0)
+  is = sym (at-fetch .fetch .ensures) ∙ c .before .before .fetched .given .1
+
+  permitted : (b : Bool) → c .permits .result ≡ b → permitsOf (opcodeOf code) (c .before .before .fetched .given .0 .0) ≡ b
+  permitted b e =
+      let z = c .before .before .fetched .given .0 .0 in
+      ap (λ n. permitsOf (opcodeOf n) z) (sym (at-fetch .before .wide .ensures))
+      ∙ sym (rw (back-ok z (c .before .known-told .given .0 .1)) at (c .permits .ensures))
+      ∙ e
+
 add-count : tie.Need-add-count Inv-loop μ-loop
-add-count c =
-    let at-loop = c .before .before .before .before .before .before in
-    omega (arith, at-loop .loop .inv .few)
+add-count c = omega (arith, head (at-fetch (c .before)) .loop .inv .few)
 
 loop-less : tie.Need-loop-less Inv-loop μ-loop
 loop-less c =
-    let t = c .before .before .before in
-    let l = t .before .before .before in
-    let e = sym (t .fetch .ensures) ∙ c .before .fetched .given .1 in
-    let h = t .before .before .loop-test .taken in
+    let f = at-fetch (c .before) in
+    let h = taken f in
     omega (
       arith,
-      invariant-forward (now (l .before .before .args .bytes)) (l .loop .at) (l .loop .count) (l .loop .inv) h
-          (t .before .if1 .left) (c .before .fetched .given .0 .0) (c .before .fetched .given .0 .1 .0) e,
+      invariant-forward (now (start f .args .bytes)) (head f .loop .at) (head f .loop .count) (head f .loop .inv) h (more f) _ _
+          (is (c .before)),
     )
 
 loop-again : tie.Need-loop-again Inv-loop μ-loop
 loop-again c =
-    let t = c .before .before .before in
-    let l = t .before .before .before in
-    invariant-next (now (l .before .before .args .bytes)) (l .loop .at) (l .loop .count) (l .loop .inv)
-    (t .before .before .loop-test .taken)
-    (t .before .if1 .left) (c .before .fetched .given .0 .0) (c .before .fetched .given .0 .1 .0)
-    (sym (t .fetch .ensures) ∙ c .before .fetched .given .1)
+    let f = at-fetch (c .before) in
+    invariant-next (now (start f .args .bytes)) (head f .loop .at) (head f .loop .count) (head f .loop .inv) (taken f) (more f) _ _
+    (is (c .before)) (permitted (c .before) _ (c .if2 .taken))
 
 returns-2 : tie.Need-returns-2 Inv-loop μ-loop
 returns-2 c =
-    let t = c .before .before in
-    let l = t .before .before .before in
-    invariant-unknown (now (l .before .before .args .bytes)) (l .loop .at) (l .loop .count) (l .loop .inv)
-    (t .before .before .loop-test .taken)
-    (t .before .if1 .left) (sym (t .fetch .ensures) ∙ c .enum-told .given .1)
+    let f = at-fetch (c .before) in
+    invariant-outside (now (start f .args .bytes)) (head f .loop .at) (head f .loop .count) (head f .loop .inv) (taken f) (more f) _ _
+    (is (c .before)) (permitted (c .before) _ (c .if2 .left))
 
 returns-3 : tie.Need-returns-3 Inv-loop μ-loop
 returns-3 c =
-    let t = c .before .before in
-    let l = t .before .before .before in
-    invariant-cut (now (l .before .before .args .bytes)) (l .loop .at) (l .loop .count) (l .loop .inv) (t .before .before .loop-test .taken)
-    (t .before .if1 .left) (sym (t .fetch .ensures) ∙ c .enum-told2 .given .1)
+    let f = c .before .before in
+    invariant-unknown (now (start f .args .bytes)) (head f .loop .at) (head f .loop .count) (head f .loop .inv) (taken f) (more f)
+    (sym (f .fetch .ensures) ∙ c .enum-told .given .1)
 
 returns-4 : tie.Need-returns-4 Inv-loop μ-loop
 returns-4 c =
+    let f = c .before .before in
+    invariant-cut (now (start f .args .bytes)) (head f .loop .at) (head f .loop .count) (head f .loop .inv) (taken f) (more f)
+    (sym (f .fetch .ensures) ∙ c .enum-told2 .given .1)
+
+returns-5 : tie.Need-returns-5 Inv-loop μ-loop
+returns-5 c =
     let l = c .before in
     invariant-end (now (l .before .before .args .bytes)) (l .loop .at) (l .loop .count) (l .loop .inv) (c .loop-test .left)
 
@@ -80,13 +115,17 @@ check-spec =
     μ-loop
     loop-holds
     returns
+    (λ c. search needs)
+    (λ c κs. search needs)
     (λ c κs. search needs)
     (λ c. search needs)
+    (λ c κs. search needs)
     add-count
     loop-less
     loop-again
-    (λ c. search needs)
     returns-2
     (λ c. search needs)
     returns-3
-    returns-4)
+    (λ c. search needs)
+    returns-4
+    returns-5)

@@ -1,25 +1,71 @@
--- `program::put` meets its contract: by the shape, the code is followed by eight bytes, by two or by none, if there is room.
+-- `program::put` meets its contract: by the shape, the code is followed by eight bytes, by two, by one or by none, if there is room.
 -- Assumes nothing.
-use mathlib.Core.Path.{_≡_, _∙_, sym, refl}
-use mathlib.Core.List.{[], _∷_}
-use Prim.Native.Nat.{_+_}
+use mathlib.Core.Path.{_≡_, _∙_, sym, refl, ap}
+use mathlib.Core.List.{List, [], _∷_}
+use Prim.Native.Nat.{ℕ, _+_, _-_, _≤_, _<_}
 use native.Mathlib.Omega.{arith}
 use denote.Ref.{now}
-use lib.ListN.{length-set}
+use lib.ListN.{length, length-set, set}
 use borrow.Author.Needs.{needs}
 use Rattle.word.specs.Field.{bytesOf}
+use Rattle.word.specs.Text.{putAnswer, putOut}
+use Rattle.word.specs.declared.text.Put.{Put}
+use Rattle.word.specs.declared.text.Put.the-variants.{NoRoom}
 use Rattle.word.proofs.Signed.{back}
 use Rattle.word.proofs.Laws.Field.{bytes-length}
 use Rattle.word.proofs.Laws.Text.{put-none, put-cons}
+use Rattle.program.specs.declared.Operand.{Operand}
+use Rattle.program.specs.Command.{opcodeOf, width}
+use Rattle.program.specs.Encode.{encodeCode}
 use Rattle.program.proofs.Encoding.{put-nothing, put-bare}
-use Rattle.program.specs.declared.Shape.the-variants.{Of}
-use Rattle.program.proofs.Fetching.{Shaped, shaped, shaped-none, unshaped, encode-shaped, code-byte}
+use Rattle.program.proofs.Fetching.{Shaped, shaped, width-nothing, unshaped, encode-shaped, code-byte}
 use Rattle.program.proofs.put.Statement.{statement}
 use Rattle.program.proofs.put.Tie as tie
 
--- the opcode of the code that is written
-of-shape : (c : tie.After-shape-of) {w n : _} {has : _} → c .shape-of .result ≡ Of w n has → Shaped (c .before .before .args .code) w
-of-shape c e = shaped (c .before .before .args .code) _ _ _ (sym (c .shape-of .ensures) ∙ e)
+-- the opcode of the code that is written, and its bytes by the operand's width
+module _ (c : tie.After-width-of) where
+  abbrev read : tie.After-shape-of
+  read = c .before .before .before .before
+
+  abbrev start : tie.Start
+  start = read .before .before
+
+  abbrev x : Operand
+  x = c .before .before .shape .given .0 .0
+
+  of-shape : Shaped (start .args .code) x
+  of-shape = shaped (start .args .code) _ _ _ _ (sym (read .shape-of .ensures) ∙ c .before .before .shape .given .1)
+
+  bytes : (k : ℕ) → c .width-of .result ≡ k
+      → encodeCode (opcodeOf (start .args .code)) (start .args .operand) ≡ start .args .code ∷ bytesOf k (start .args .operand)
+  bytes k e =
+      encode-shaped (start .args .code) x of-shape (start .args .operand)
+      ∙ ap (λ n. start .args .code ∷ bytesOf n (start .args .operand)) (sym (c .width-of .ensures) ∙ e)
+
+  abbrev Puts : Put → List ℕ → Type 0
+  Puts r out =
+      let code = encodeCode (opcodeOf (start .args .code)) (start .args .operand) in
+      let old = now (start .args .out) in
+      (r ≡ putAnswer (start .args .at) code old) × (out ≡ putOut (start .args .at) code old)
+
+  without : length (now (start .args .out)) ≤ start .args .at + c .width-of .result → Puts NoRoom (now (start .args .out))
+  without h =
+      let a = start .args in
+      let w = c .width-of .result in
+      let put = put-none (a .at) (w + 1) (a .code ∷ bytesOf w (a .operand)) (now (a .out)) (omega (arith, bytes-length w (a .operand)))
+      (omega arith) in
+      rw (bytes w refl) (sym (put .0), sym (put .1))
+
+  -- the code is written, and its operand's bytes are put after it
+  after : (k : ℕ) → c .width-of .result ≡ k → start .args .at + k < length (now (start .args .out)) → {r : Put} {out : List ℕ}
+      → (let old = set (now (start .args .out)) (start .args .at) (start .args .code) in
+      let code = bytesOf k (start .args .operand) in
+      (r ≡ putAnswer (start .args .at + 1) code old) × (out ≡ putOut (start .args .at + 1) code old))
+      → Puts r out
+  after k e h p =
+      let a = start .args in
+      let put = put-cons (a .at) k (a .code) (bytesOf k (a .operand)) (now (a .out)) (bytes-length k (a .operand)) (omega arith) in
+      rw (bytes k e) (p .0 ∙ put .0, p .1 ∙ put .1)
 
 returns : tie.Need-returns
 returns c =
@@ -29,28 +75,14 @@ returns c =
     rw (unshaped (a .code) (sym (t .shape-of .ensures) ∙ c .before .enum-told .given .1)) (sym (put .0), sym (put .1))
 
 returns-2 : tie.Need-returns-2
-returns-2 c =
-    let t = c .before .before .before .before in
-    let a = t .before .before .args in
-    let x = of-shape t (c .before .before .shape .given .1) in
-    let w = c .before .before .shape .given .0 .0 in
-    let put = put-none (a .at) (w + 1) (a .code ∷ bytesOf w (a .operand)) (now (a .out)) (omega (arith, bytes-length w (a .operand))) (search needs) in
-    rw (encode-shaped (a .code) w x (a .operand)) (sym (put .0), sym (put .1))
+returns-2 c = without (c .before) (let h = c .if2 .taken in omega arith)
 
 returns-3 : tie.Need-returns-3
-returns-3 c =
-    let t = c .before .before .before .before .before in
-    let a = t .before .before .args in
-    let x = of-shape t (c .before .before .before .shape .given .1) in
-    let w = c .before .before .before .shape .given .0 .0 in
-    let put = put-none (a .at) (w + 1) (a .code ∷ bytesOf w (a .operand)) (now (a .out)) (omega (arith, bytes-length w (a .operand))) (omega arith) in
-    rw (encode-shaped (a .code) w x (a .operand)) (sym (put .0), sym (put .1))
+returns-3 c = without (c .before .before) (let g = c .before .if2 .left in let h = c .if3 .taken in omega arith)
 
 cast-out : tie.Need-cast-out
 cast-out c =
-    let t = c .before .before .before .before .before in
-    let a = t .before .before .args in
-    record { fits = code-byte (a .code) _ (of-shape t (c .before .before .before .shape .given .1)) (a .operand) }
+    let w = c .before .before in record { fits = code-byte (start w .args .code) _ (of-shape w) (start w .args .operand) }
 
 same-length : tie.Need-same-length
 same-length c = c .before .out .given ∙ simp length-set
@@ -58,14 +90,9 @@ same-length c = c .before .out .given ∙ simp length-set
 returns-4 : tie.Need-returns-4
 returns-4 c =
     let h = c .before .before .before .before in
-    let t = h .before .before .before .before .before .before in
-    let a = t .before .before .args in
-    let x = of-shape t (h .before .before .before .before .shape .given .1) in
-    let w = h .before .before .before .before .shape .given .0 .0 in
-    let put = put-cons (a .at) 8 (a .code) (bytesOf 8 (a .operand)) (now (a .out)) (bytes-length 8 (a .operand)) (omega (arith, h .if4 .taken)) in
-    let same = back (t .before .before .fits .operand) in
-    rw (encode-shaped (a .code) w x (a .operand), h .if4 .taken)
-    (rw same at (c .before .before .put-i64 .ensures .0) ∙ put .0, rw same at (c .before .before .put-i64 .ensures .1) ∙ put .1)
+    let w = h .before .before .before in
+    after w 8 (h .if4 .taken) (let e = h .if4 .taken in let g = h .before .if3 .left in let f = h .before .before .if2 .left in omega arith)
+    (rw (back (start w .fits .operand)) at (c .before .before .put-i64 .ensures))
 
 same-length-2 : tie.Need-same-length-2
 same-length-2 c = c .before .out2 .given ∙ simp length-set
@@ -73,31 +100,38 @@ same-length-2 c = c .before .out2 .given ∙ simp length-set
 returns-5 : tie.Need-returns-5
 returns-5 c =
     let h = c .before .before .before .before in
-    let t = h .before .before .before .before .before .before .before in
-    let a = t .before .before .args in
-    let x = of-shape t (h .before .before .before .before .before .shape .given .1) in
-    let w = h .before .before .before .before .before .shape .given .0 .0 in
-    let put = put-cons (a .at) 2 (a .code) (bytesOf 2 (a .operand)) (now (a .out)) (bytes-length 2 (a .operand)) (omega (arith, h .if5 .taken)) in
-    let same = back (t .before .before .fits .operand) in
-    rw (encode-shaped (a .code) w x (a .operand), h .if5 .taken)
-    (rw same at (c .before .before .put-i16 .ensures .0) ∙ put .0, rw same at (c .before .before .put-i16 .ensures .1) ∙ put .1)
+    let l = h .before .before in
+    let w = l .before .before in
+    after w 2 (h .if5 .taken) (let e = h .if5 .taken in let g = l .if3 .left in let f = l .before .if2 .left in omega arith)
+    (rw (back (start w .fits .operand)) at (c .before .before .put-i16 .ensures))
+
+same-length-3 : tie.Need-same-length-3
+same-length-3 c = c .before .out3 .given ∙ simp length-set
 
 returns-6 : tie.Need-returns-6
 returns-6 c =
+    let h = c .before .before .before .before in
+    let l = h .before .before .before in
+    let w = l .before .before in
+    after w 1 (h .if6 .taken) (let e = h .if6 .taken in let g = l .if3 .left in let f = l .before .if2 .left in omega arith)
+    (rw (back (start w .fits .operand)) at (c .before .before .put-byte .ensures))
+
+returns-7 : tie.Need-returns-7
+returns-7 c =
     let t = c .before .before .before in
     let a = t .before .before .args in
     rw (unshaped (a .code) (sym (t .shape-of .ensures) ∙ c .before .enum-told .given .1))
     (put-nothing (a .at) (now (a .out)) (search needs))
 
-returns-7 : tie.Need-returns-7
-returns-7 c =
-    let t = c .before .before .before .before .before .before .before in
-    let a = t .before .before .args in
-    let x = of-shape t (c .before .before .before .before .before .shape .given .1) in
-    let w = c .before .before .before .before .before .shape .given .0 .0 in
-    let e = shaped-none (a .code) w x (c .before .if4 .left) (c .if5 .left) in
-    rw (encode-shaped (a .code) w x (a .operand), e)
-    (put-bare (a .at) (a .code) (a .operand) (now (a .out)) (omega arith))
+returns-8 : tie.Need-returns-8
+returns-8 c =
+    let w = c .before .before .before .before .before in
+    let a = start w .args in
+    let e = w .width-of .ensures in
+    let none = width-nothing (a .code) (x w) (of-shape w) (λ k. c .before .before .if4 .left (e ∙ k)) (λ k. c .before .if5 .left (e ∙ k))
+    (λ k. c .if6 .left (e ∙ k)) in
+    rw (bytes w 0 (e ∙ none)) (put-bare (a .at) (a .code) (a .operand) (now (a .out)) (let h = c .before .before .before .before .if2 .left in
+    omega arith))
 
 pub put-spec : {M : Type 1} → statement M
 put-spec =
@@ -107,6 +141,7 @@ put-spec =
     (λ c. search needs)
     returns
     (λ c. search needs)
+    (λ c κs. search needs)
     returns-2
     (λ c. search needs)
     returns-3
@@ -121,6 +156,10 @@ put-spec =
     same-length-2
     returns-5
     (λ c. search needs)
+    (λ c κs. search needs)
+    same-length-3
     returns-6
     (λ c. search needs)
-    returns-7)
+    returns-7
+    (λ c. search needs)
+    returns-8)

@@ -1,6 +1,5 @@
 -- `tables::check_table` meets its contract. The loop's invariant: what is left to read gives the whole table's answer.
 -- The measure is how many rules are left. Assumes nothing.
-use mathlib.Core.Path.{_∙_, sym}
 use Prim.Native.Nat.{_-_}
 use native.Mathlib.Omega.{arith}
 use borrow.Author.Needs.{needs}
@@ -32,28 +31,20 @@ loop-less c = omega arith
 loop-again : tie.Need-loop-again Inv-loop μ-loop
 loop-again c =
     let r = c .before .before .before in
-    let l = r .before .before in
-    checking-next (now (l .before .before .before .args .bytes)) (l .loop .i) (l .loop .at) (l .loop .inv) _ (r .before .loop-test .taken)
-    (c .before .rule .given .0 .0) (c .before .rule .given .0 .1 .0) (sym (r .read-rule .ensures) ∙ c .before .rule .given .1)
+    checking-next _ _ _ (r .before .before .loop .inv) _ (r .before .loop-test .taken) _ _
+    (rw (c .before .rule .given .1) at (r .read-rule .ensures))
 
 returns-2 : tie.Need-returns-2 Inv-loop μ-loop
 returns-2 c =
     let r = c .before .before .before in
-    let l = r .before .before in
-    checking-fault (now (l .before .before .before .args .bytes)) (l .loop .i) (l .loop .at) (l .loop .inv) _ (r .before .loop-test .taken)
-    (c .before .rule2 .given .0 .0) (sym (r .read-rule .ensures) ∙ c .before .rule2 .given .1)
+    checking-fault _ _ _ (r .before .before .loop .inv) _ (r .before .loop-test .taken) _
+    (rw (c .before .rule2 .given .1) at (r .read-rule .ensures))
 
 returns-3 : tie.Need-returns-3 Inv-loop μ-loop
-returns-3 c =
-    let l = c .before .before in
-    checking-left-over (now (l .before .before .before .args .bytes)) (l .loop .i) (l .loop .at) (l .loop .inv)
-    (c .before .loop-test .left) (c .if2 .taken)
+returns-3 c = checking-left-over _ _ _ (c .before .before .loop .inv) (c .before .loop-test .left) (c .if2 .taken)
 
 returns-4 : tie.Need-returns-4 Inv-loop μ-loop
-returns-4 c =
-    let l = c .before .before in
-    checking-end (now (l .before .before .before .args .bytes)) (l .loop .i) (l .loop .at) (l .loop .inv) (c .before .loop-test .left)
-    (c .if2 .left)
+returns-4 c = checking-end _ _ _ (c .before .before .loop .inv) (c .before .loop-test .left) (c .if2 .left)
 
 pub check-table-spec : {M : Type 1} → statement M
 check-table-spec =

@@ -12,7 +12,7 @@ returns : tie.Need-returns
 returns c =
     let h = c .before .before .before .before in
     let a = h .before .before .args in
-    code-known (a .labels) (now (a .bytes)) (a .at) (opcodeOf (a .code)) _ _ _
+    code-known (a .labels) (now (a .bytes)) (a .at) (opcodeOf (a .code))
     (sym (h .shape-of .ensures) ∙ c .before .before .shape .given .1)
     (c .read-rule-with .result) (c .read-rule-with .ensures)
 

@@ -59,7 +59,7 @@ module _ (k : tie.After-check) where
   abbrev runs : Memory
   runs =
       memory (now (start .args .program)) (lent (now (start .args .stack)) (cells (now (start .args .values)) (now (start .args .labels))))
-      (output (now (start .args .numbers)) (now (start .args .line-labels)) (now (start .args .kinds)))
+      (output (now (start .args .numbers)) (now (start .args .line-labels)) (now (start .args .kinds)) (now (start .args .pages)))
 
   octets : Bytes sheet
   octets i = omega (arith, k .before .before .before .before .shared-slice-known .given i)
@@ -119,14 +119,14 @@ module _ (r : tie.After-room) where
 -- the loop has run, and the room that it was given
 module _ (c : tie.After-row) where
   abbrev gone : tie.After-go
-  gone = c .before .before .before .before .before .before .before .before
+  gone = c .before .before .before .before .before .before .before .before .before
 
   abbrev roomy : tie.After-room
-  roomy = gone .before .before .before .before .before .before .before .before .before
+  roomy = gone .before .before .before .before .before .before .before .before .before .before
 
 go-requires : tie.Need-go-requires
 go-requires c κs =
-    let a = passed (c .before .before .before .before .before .before .before .before) in
+    let a = passed (c .before .before .before .before .before .before .before .before .before) in
     let k = kept a in
     let t = table a in
     let n = program a .2 in
@@ -159,7 +159,7 @@ returns-2 c =
     (load (roomy c) .write .ensures ∙ written-accepted (sheet k) (program a .0) _ (t .1 .fine .decoded) (t .1 .fine .program))
     (written (roomy c) .write2 .ensures .0 ∙ written-table (rules k) (t .0) _ (t .1 .rules) (t .1 .fits)) (size-is a)
     (done (r .ran) (tag (r .cache .words) (r .faults) (r .kernel)) (lent (x .0) (cells (x .1 .0) (x .1 .1 .0)))
-    (output (y .0) (y .1 .0) (y .1 .1 .0)))
+    (output (y .0) (y .1 .0) (y .1 .1 .0) (y .1 .1 .1 .0)))
     (g .go .ensures
     ∙ ap (λ n. loopOf ω (count a) n loaded (fuel k) 0 started (tagOf (row k)) (runs k .lent) (runs k .output)) (roomy c .room .ensures)))
 
@@ -180,6 +180,7 @@ execute-spec =
     (λ c. search needs)
     (λ c. search needs)
     (λ c. load (roomy c) .write .kept .1 .0)
+    (λ c. search needs)
     (λ c. search needs)
     (λ c. search needs)
     (λ c. search needs)

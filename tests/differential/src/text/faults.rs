@@ -2,7 +2,7 @@
 
 use super::{written, Texts, Way, Written};
 use crate::backend::Itself;
-use model::sheet::{decode, encode, Command, Command::*, COMMANDS, EACH};
+use model::sheet::{decode, encode, Command, Command::*, COMMANDS, EACH, PAGES};
 use model::text::{command, lines, normal, LineFault};
 use model::Refusal;
 
@@ -67,6 +67,18 @@ pub enum Fault {
     CodeCounted,
     /// Refusal 3 has the operand's offset.
     OperandOffset,
+    /// Pages over 15 are listed.
+    PageListed,
+    /// Page 16 is listed.
+    PageSixteen,
+    /// A page over 15 is refused by 2.
+    PageAsCode,
+    /// A cut OutputTo is refused by 12.
+    PageBeforeCut,
+    /// Refusal 12 has the operand's offset.
+    PageOffset,
+    /// OutputTo is listed without its page.
+    PageLost,
     /// 8 goes before the other refusals.
     ShortFirst,
     /// A buffer that fits exactly is too short.
@@ -85,7 +97,7 @@ pub enum Fault {
     RefusalLength,
 }
 
-const OF_READER: [Fault; 33] = [
+const OF_READER: [Fault; 38] = [
     Fault::LinesFromZero,
     Fault::NewlineNeeded,
     Fault::EmptyLinePassed,
@@ -114,14 +126,19 @@ const OF_READER: [Fault; 33] = [
     Fault::Refused(Push(i64::MIN)),
     Fault::Refused(Bnz(i16::MAX)),
     Fault::Refused(Bnz(i16::MIN)),
+    Fault::Refused(OutputTo(0)),
+    Fault::Refused(OutputTo(15)),
     Fault::Passed("Push 9223372036854775808", Push(i64::MIN)),
     Fault::Passed("Push -9223372036854775809", Push(i64::MAX)),
     Fault::Passed("Bnz 32768", Bnz(i16::MIN)),
     Fault::Passed("Bnz -32769", Bnz(i16::MAX)),
+    Fault::Passed("OutputTo 16", OutputTo(16)),
+    Fault::Passed("OutputTo -1", OutputTo(15)),
+    Fault::Taken("Output ", "OutputTo "),
     Fault::Wraps,
 ];
 
-const OF_LISTER: [Fault; 8] = [
+const OF_LISTER: [Fault; 14] = [
     Fault::LimitLower,
     Fault::MinusZeroListed,
     Fault::ZerosListed,
@@ -130,6 +147,12 @@ const OF_LISTER: [Fault; 8] = [
     Fault::NewlineMissing,
     Fault::CodeCounted,
     Fault::OperandOffset,
+    Fault::PageListed,
+    Fault::PageSixteen,
+    Fault::PageAsCode,
+    Fault::PageBeforeCut,
+    Fault::PageOffset,
+    Fault::PageLost,
 ];
 
 const OF_BOTH: [Fault; 8] = [
@@ -165,8 +188,8 @@ impl Faulty {
             None => right,
         };
         let is_outside = |word: &str| retry(format!("{name} {word}")) == Err(LineFault::Outside);
-        let zeros =
-            operand.trim_start_matches('-').starts_with('0') && right != Ok(Push(0)) && right != Ok(Bnz(0));
+        let zero = right.is_ok_and(|command| command.operand() == Some(0));
+        let zeros = operand.trim_start_matches('-').starts_with('0') && !zero;
         match self.1 {
             Fault::AnyCase => renamed(&|each| each.eq_ignore_ascii_case(name)),
             Fault::NameCut => renamed(&|each| !name.is_empty() && each.starts_with(name)),
@@ -188,7 +211,9 @@ impl Faulty {
             Fault::Passed(next, taken) if text == next => Ok(taken),
             Fault::Wraps if right == Err(LineFault::Outside) => match operand.parse::<i128>() {
                 Ok(number) if name == "Push" => Ok(Push(number as i64)),
-                Ok(number) => Ok(Bnz(number as i16)),
+                Ok(number) if name == "Bnz" => Ok(Bnz(number as i16)),
+                Ok(number) if (number as u8) < PAGES => Ok(OutputTo(number as u8)),
+                Ok(_) => right,
                 Err(_) => right,
             },
             _ => right,
@@ -264,10 +289,7 @@ impl Texts for Faulty {
 
     fn list(&self, sheet: &[u8], buffer: &mut [u8]) -> Written {
         let Faulty(Way::List, fault) = *self else { return Itself.list(sheet, buffer) };
-        let (mut commands, mut refusal) = match decode(sheet) {
-            Ok(commands) => (commands, None),
-            Err(refusal) => (decode(&sheet[..refusal.place as usize]).unwrap_or_default(), Some(refusal)),
-        };
+        let (mut commands, mut refusal) = pass_pages(fault, sheet);
         if fault == Fault::LimitLower && commands.len() == COMMANDS {
             commands.pop();
             refusal = Some(Refusal::new(1, encode(&commands).len()));
@@ -277,6 +299,11 @@ impl Texts for Faulty {
                 *place = commands.len() as u64
             }
             Some(Refusal { number: 3, place }) if fault == Fault::OperandOffset => *place += 1,
+            Some(Refusal { number: number @ 3, place }) if fault == Fault::PageBeforeCut => {
+                *number = if sheet[*place as usize] == 0x0c { 12 } else { 3 };
+            }
+            Some(Refusal { number: number @ 12, .. }) if fault == Fault::PageAsCode => *number = 2,
+            Some(Refusal { number: 12, place }) if fault == Fault::PageOffset => *place += 1,
             _ => {}
         }
         let mut text = normal(&commands);
@@ -285,9 +312,32 @@ impl Texts for Faulty {
             Fault::ZerosListed => text = text.replace(" 0\n", " 00\n"),
             Fault::LeastListed => text = text.replace("-9223372036854775808", "-0"),
             Fault::Unsigned => text = text.replace("Bnz -1\n", "Bnz 65535\n"),
+            Fault::PageLost => text = text.replace("OutputTo 15\n", "OutputTo\n"),
             Fault::NewlineMissing => text.truncate(text.len().saturating_sub(1)),
             _ => {}
         }
         self.write(text.as_bytes(), refusal, buffer)
     }
+}
+
+/// The commands of a sheet as far as they pass, and the refusal of the next. With the fault pages pass that should not.
+fn pass_pages(fault: Fault, sheet: &[u8]) -> (Vec<Command>, Option<Refusal>) {
+    let refusal = match decode(sheet) {
+        Ok(commands) => return (commands, None),
+        Err(refusal) => refusal,
+    };
+    let at = refusal.place as usize;
+    let mut commands = decode(&sheet[..at]).unwrap_or_default();
+    let passes = match fault {
+        Fault::PageListed => true,
+        Fault::PageSixteen => sheet.get(at + 1) == Some(&PAGES),
+        _ => false,
+    };
+    if refusal.number != 12 || !passes {
+        return (commands, Some(refusal));
+    }
+    let (rest, refusal) = pass_pages(fault, &sheet[at + 2..]);
+    commands.push(OutputTo(sheet[at + 1]));
+    commands.extend(rest);
+    (commands, refusal.map(|Refusal { number, place }| Refusal { number, place: place + at as u64 + 2 }))
 }

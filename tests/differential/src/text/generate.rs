@@ -1,9 +1,9 @@
 //! Makes texts to read and sheets to list, some of them damaged.
 
 use super::{Case, Way};
-use crate::generate::{any_command, damage, length};
+use crate::generate::{any_command, damage, damage_sheet, encoded, length};
 use crate::random::Random;
-use model::sheet::{encode, Command, Command::*};
+use model::sheet::{Command, Command::*, COMMANDS, PAGES};
 
 pub fn case(random: &mut Random) -> Case {
     let (way, input) =
@@ -31,9 +31,10 @@ fn command(random: &mut Random) -> Command {
 }
 
 fn sheet(random: &mut Random) -> Vec<u8> {
-    let mut sheet = encode(&commands(random));
+    let commands = commands(random);
+    let mut sheet = encoded(random, commands);
     if random.percent(15) {
-        damage(random, &mut sheet, &[0, 1, 2, 3, 4, 5, 6, 7, 8, 9, 10, 11, 12]);
+        damage_sheet(random, &mut sheet);
     }
     sheet
 }
@@ -52,11 +53,16 @@ fn numeral(random: &mut Random, number: i128) -> String {
 
 /// A numeral for a number outside the command's range, next to it in some cases.
 fn outside(random: &mut Random, command: Command) -> String {
-    let next: i128 = if matches!(command, Bnz(_)) { 1 << 15 } else { 1 << 63 };
-    let wraps = 2 * next * random.between(1, 9) as i128;
+    let (above, below): (i128, i128) = match command {
+        OutputTo(_) => (PAGES.into(), -1),
+        Bnz(_) => (1 << 15, (-1 << 15) - 1),
+        _ => (1 << 63, (-1 << 63) - 1),
+    };
+    // What is 0 in as many bits as the command's operand has.
+    let wraps = if matches!(command, OutputTo(_)) { 256 } else { 2 * above } * random.between(1, 9) as i128;
     match random.weighted(&[30, 30, 10, 10, 10, 10]) {
-        0 => numeral(random, next),
-        1 => numeral(random, -next - 1),
+        0 => numeral(random, above),
+        1 => numeral(random, below),
         2 => numeral(random, wraps),
         3 => numeral(random, -wraps),
         4 => random.pick(&["9", "-9"]).to_string() + &"0".repeat(random.between(20, 600)),
@@ -65,17 +71,16 @@ fn outside(random: &mut Random, command: Command) -> String {
 }
 
 fn line(random: &mut Random, command: Command) -> Vec<u8> {
-    let operand = match command {
-        Push(number) => numeral(random, number.into()),
-        Bnz(distance) => numeral(random, distance.into()),
-        _ => return command.name().into(),
-    };
-    format!("{} {operand}", command.name()).into()
+    match command.operand() {
+        Some(operand) => format!("{} {}", command.name(), numeral(random, operand.into())).into(),
+        None => command.name().into(),
+    }
 }
 
 /// A line that is mostly refused.
 fn faulty_line(random: &mut Random) -> Vec<u8> {
-    let command = if random.percent(60) { random.pick(&[Push(-10), Bnz(7)]) } else { command(random) };
+    let command =
+        if random.percent(60) { random.pick(&[Push(-10), Bnz(7), OutputTo(3)]) } else { command(random) };
     let name = command.name();
     let mut line = line(random, command);
     match random.weighted(&[30, 8, 12, 12, 12, 12, 12, 2]) {
@@ -114,6 +119,10 @@ fn text(random: &mut Random) -> Vec<u8> {
         let at =
             if random.percent(35) { last.saturating_sub(random.below(3)) } else { random.below(last + 1) };
         lines[at] = faulty_line(random);
+    }
+    // The line that is one too many may be at fault itself.
+    if lines.len() > COMMANDS && random.percent(30) {
+        lines[COMMANDS] = faulty_line(random);
     }
     let mut text = lines.join(&b'\n');
     let end = match random.weighted(&[70, 25, 5]) {

@@ -95,6 +95,8 @@ fn commands_met(commands: Option<&[Command]>) -> Met {
         ("Bnz 32767", has(Bnz(i16::MAX))),
         ("Bnz -32768", has(Bnz(i16::MIN))),
         ("Bnz 0", has(Bnz(0))),
+        ("OutputTo 0", has(OutputTo(0))),
+        ("OutputTo 15", has(OutputTo(15))),
         ("no command", commands(&|all| all.is_empty())),
         ("4,096 commands", commands(&|all| all.len() == COMMANDS)),
     ]);
@@ -104,7 +106,23 @@ fn commands_met(commands: Option<&[Command]>) -> Met {
 fn listed_met(case: &Case, refusal: u64) -> Met {
     let mut met = buffer_met(case, refusal);
     met.extend(commands_met(decode(&case.input).ok().filter(|_| refusal == 0).as_deref()));
-    met.extend([("1", refusal == 1), ("2", refusal == 2), ("3", refusal == 3)]);
+    let at = decode(&case.input).err().map(|refusal| refusal.place as usize);
+    let code = at.map(|at| case.input[at]);
+    let next = at.and_then(|at| case.input.get(at + 1).copied());
+    let page = next.filter(|_| refusal == 12);
+    let later = at.is_some_and(|at| page.is_some() && decode(&case.input[at + 2..]).is_err());
+    met.extend([
+        ("1", refusal == 1),
+        ("1 at a page over 15", refusal == 1 && next.is_some_and(|page| code == Some(0x0c) && page > 15)),
+        ("2", refusal == 2),
+        ("2, 0d", refusal == 2 && code == Some(0x0d)),
+        ("3", refusal == 3),
+        ("3, OutputTo", refusal == 3 && code == Some(0x0c)),
+        ("12", refusal == 12),
+        ("12, page 16", page == Some(16)),
+        ("12, page over 127", page.is_some_and(|page| page > 127)),
+        ("12 before another", later),
+    ]);
     met
 }
 
@@ -121,6 +139,7 @@ fn operands_met(text: &[u8], is_read: bool) -> Met {
     vec![
         ("leading zeros", any(&|operand| digits(operand).len() > 1 && digits(operand).starts_with('0'))),
         ("a minus before 0", any(&|operand| operand.starts_with('-') && operand.parse() == Ok(0))),
+        ("a minus before page 0", is_read && lines(text).any(|line| line.starts_with(b"OutputTo -"))),
         ("over 100 digits", any(&|operand| operand.len() > 100)),
     ]
 }
@@ -145,6 +164,11 @@ fn line_met(line: &[u8], fault: Option<LineFault>) -> Met {
         ("10, more than a name", alike(&|each| name.starts_with(each))),
         ("10, empty line", ten && line.is_empty()),
         ("10, operand count", is(LineFault::OperandCount)),
+        ("10, Output with an operand", is(LineFault::OperandCount) && name == "Output"),
+        (
+            "10, OutputTo without one",
+            is(LineFault::OperandCount) && name == "OutputTo" && operands.is_empty(),
+        ),
         ("10, operand badly written", is(LineFault::BadOperand)),
         ("10 before 11", ten && operands.iter().any(is_outside)),
         ("11", outside),
@@ -152,6 +176,9 @@ fn line_met(line: &[u8], fault: Option<LineFault>) -> Met {
         ("11, Push -2^63-1", next("Push", (-1 << 63) - 1)),
         ("11, Bnz 32768", next("Bnz", 32_768)),
         ("11, Bnz -32769", next("Bnz", -32_769)),
+        ("11, OutputTo 16", next("OutputTo", 16)),
+        ("11, OutputTo -1", next("OutputTo", -1)),
+        ("11, OutputTo 256", next("OutputTo", 256)),
         ("11, over 100 digits", outside && operands[0].len() > 100),
     ]
 }

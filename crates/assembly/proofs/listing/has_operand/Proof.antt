@@ -11,9 +11,11 @@ returns c = rw (unshaped (c .before .before .before .args .code) (sym (c .before
 
 returns-2 : tie.Need-returns-2
 returns-2 c =
-    let code = c .before .before .before .before .args .code in
-    let x = shaped code _ _ _ (sym (c .before .before .before .shape-of .ensures) ∙ c .before .shape .given .1) in
-    rw (x .1, x .2)
+    let s = c .before .before in
+    let code = s .before .before .before .args .code in
+    let x = shaped code _ _ _ _ (sym (s .before .before .shape-of .ensures) ∙ s .shape .given .1) in
+    rw (x .1, x .2, c .width-of .ensures)
 
 pub has-operand-spec : {M : Type 1} → statement M
-has-operand-spec = tie.close (tie.spec (λ c κs. search needs) (λ c. search needs) (λ c. search needs) returns returns-2)
+has-operand-spec =
+    tie.close (tie.spec (λ c κs. search needs) (λ c. search needs) (λ c. search needs) (λ c κs. search needs) returns returns-2)

@@ -1,6 +1,7 @@
 -- `plain::command::act` meets its contract: the tests that led to a command say its code.
 -- Assumes nothing.
-use mathlib.Core.Path.{_≡_, _∙_, sym, ap}
+use mathlib.Core.Path.{_≡_, refl, _∙_, sym, ap}
+use mathlib.Core.Logic.{inl, inr}
 use Prim.Native.Nat.{_<_}
 use native.Mathlib.Omega.{arith}
 use denote.Ref.{now}
@@ -41,7 +42,7 @@ returns-3 c =
       c .before .before .before .before .before .if1 .taken,
     ) in
     c .output .ensures (start .args .word) (start .args .operand)
-    (cells (now (start .args .values)) (now (start .args .labels))) (sym (bits at-bits) ∙ is)
+    (cells (now (start .args .values)) (now (start .args .labels))) (inl (sym (bits at-bits) ∙ is, refl))
 
 returns-4 : tie.Need-returns-4
 returns-4 c =
@@ -80,45 +81,52 @@ returns-6 c =
 
 returns-7 : tie.Need-returns-7
 returns-7 c =
-    let at-bits = c .before .before .before .before .before .before in
-    let start = at-bits .before in
-    c .jump .ensures (start .args .word) (start .args .operand)
-    (cells (now (start .args .values)) (now (start .args .labels))) (sym (bits at-bits) ∙ c .before .before .if8 .taken)
-
-returns-8 : tie.Need-returns-8
-returns-8 c =
-    let at-bits = c .before .before .before .before .before .before in
-    let start = at-bits .before in
-    let is : at-bits .to-bits .result ≡ 9 = omega (
-      arith,
-      c .before .before .if8 .left,
-      c .before .before .before .if7 .taken,
-      c .before .before .before .before .if5 .left,
-      c .before .before .before .before .before .if1 .left,
-    ) in
-    rw (back {z = start .args .operand} (start .fits .operand)) at
-    (c .bnz .ensures (start .args .word) (cells (now (start .args .values)) (now (start .args .labels))) (sym (bits at-bits) ∙ is))
-
-returns-9 : tie.Need-returns-9
-returns-9 c =
-    let at-bits = c .before .before .before .before .before .before .before in
+    let at-bits = c .before .before .before .before .before .before .before .before in
     let start = at-bits .before in
     c .before .call .ensures (start .args .word) (start .args .operand)
     (cells (now (start .args .values)) (now (start .args .labels))) (sym (bits at-bits) ∙ c .before .before .before .if9 .taken)
+
+returns-8 : tie.Need-returns-8
+returns-8 c =
+    let at-bits = c .before .before .before .before .before .before .before in
+    let start = at-bits .before in
+    let is : at-bits .to-bits .result ≡ 11 = omega (
+      arith,
+      c .before .before .if9 .left,
+      c .before .before .before .if8 .taken,
+      c .before .before .before .before .if7 .taken,
+    ) in
+    c .ret .ensures (start .args .word) (start .args .operand)
+    (cells (now (start .args .values)) (now (start .args .labels))) (sym (bits at-bits) ∙ is)
+
+returns-9 : tie.Need-returns-9
+returns-9 c =
+    let at-bits = c .before .before .before .before .before .before in
+    let start = at-bits .before in
+    let more : 11 < at-bits .to-bits .result = omega (arith, c .before .before .if8 .left) in
+    c .output2 .ensures (start .args .word) (start .args .operand)
+    (cells (now (start .args .values)) (now (start .args .labels)))
+    (inr (rw (bits at-bits) at more, back {z = start .args .operand} (start .fits .operand)))
 
 returns-10 : tie.Need-returns-10
 returns-10 c =
     let at-bits = c .before .before .before .before .before .before in
     let start = at-bits .before in
-    let other = c .before .before .if9 .left in
-    let more : 10 < at-bits .to-bits .result = omega (
+    c .jump .ensures (start .args .word) (start .args .operand)
+    (cells (now (start .args .values)) (now (start .args .labels))) (sym (bits at-bits) ∙ c .before .before .if10 .taken)
+
+returns-11 : tie.Need-returns-11
+returns-11 c =
+    let at-bits = c .before .before .before .before .before .before in
+    let start = at-bits .before in
+    let is : at-bits .to-bits .result ≡ 9 = omega (
       arith,
+      c .before .before .if10 .left,
       c .before .before .before .if7 .left,
       c .before .before .before .before .if5 .left,
-      c .before .before .before .before .before .if1 .left,
     ) in
-    c .ret .ensures (start .args .word) (start .args .operand)
-    (cells (now (start .args .values)) (now (start .args .labels))) (rw (bits at-bits) at more)
+    rw (back {z = start .args .operand} (start .fits .operand)) at
+    (c .bnz .ensures (start .args .word) (cells (now (start .args .values)) (now (start .args .labels))) (sym (bits at-bits) ∙ is))
 
 pub act-spec : {M : Type 1} → statement M
 act-spec =
@@ -158,4 +166,7 @@ act-spec =
     returns-9
     (λ c κs. search needs)
     (λ c. search needs)
-    returns-10)
+    returns-10
+    (λ c κs. search needs)
+    (λ c. search needs)
+    returns-11)

@@ -2,8 +2,6 @@
 -- Assumes nothing.
 use mathlib.Core.Path.{_≡_, ap}
 use denote.Ref.{now}
-use native.Mathlib.Omega.{arith}
-use borrow.Author.Tests.{ne-eqb, le-ltb}
 use Rattle.word.specs.Wrap.{residue}
 use Rattle.step.specs.Lent.{after, lent}
 use Rattle.step.specs.Find.{findOf}
@@ -20,12 +18,7 @@ returns c = λ word operand k e.
     let at-find = c .before .before .before in
     let start = at-find .before in
     let l = lent (now (start .args .stack)) k in
-    let found : at-find .one-frame .result ≡ findOf (residue 64 word) (start .args .m) l = rw (
-      le-ltb (residue 64 word) 6 (omega arith),
-      le-ltb (residue 64 word) 8 (omega arith),
-      le-ltb (residue 64 word) 10 (omega arith),
-      ne-eqb (residue 64 word) 10 (λ g. omega arith),
-    ) (at-find .one-frame .ensures) in
+    let found : at-find .one-frame .result ≡ findOf (residue 64 word) (start .args .m) l = rw e (at-find .one-frame .ensures) in
     rw (c .stopped .ensures) (act-halted word operand (start .args .m) l (at-find .one-frame .result) found (c .before .if1 .taken))
 
 returns-2 : tie.Need-returns-2
@@ -34,25 +27,10 @@ returns-2 c = λ word operand k e.
     let at-find = c .before .before .before in
     let start = at-find .before in
     let l = lent (now (start .args .stack)) k in
-    let found : at-find .one-frame .result ≡ findOf (residue 64 word) (start .args .m) l = rw (
-      le-ltb (residue 64 word) 6 (omega arith),
-      le-ltb (residue 64 word) 8 (omega arith),
-      le-ltb (residue 64 word) 10 (omega arith),
-      ne-eqb (residue 64 word) 10 (λ g. omega arith),
-    ) (at-find .one-frame .ensures) in
+    let found : at-find .one-frame .result ≡ findOf (residue 64 word) (start .args .m) l = rw e (at-find .one-frame .ensures) in
     act-allowed word operand (start .args .m) l (at-find .one-frame .result) found (c .before .if1 .left)
-    (at-find .one-frame .result .input1 .0) 0 (rw (
-      le-ltb (residue 64 word) 6 (omega arith),
-      le-ltb (residue 64 word) 8 (omega arith),
-      le-ltb (residue 64 word) 10 (omega arith),
-      ne-eqb (residue 64 word) 10 (λ g. omega arith),
-    )) _
-    (rw (
-      le-ltb (residue 64 word) 6 (omega arith),
-      le-ltb (residue 64 word) 8 (omega arith),
-      le-ltb (residue 64 word) 10 (omega arith),
-      ne-eqb (residue 64 word) 10 (λ g. omega arith),
-    ) (ap (λ r. after r l) (c .jump .ensures)))
+    (at-find .one-frame .result .input1 .0) 0 (rw e) _
+    (rw e (ap (λ r. after r l) (c .jump .ensures)))
 
 pub ret-spec : {M : Type 1} → statement M
 ret-spec = tie.close (tie.spec (λ c κs. search needs) (λ c κs. search needs) returns (λ c κs. search needs) returns-2)

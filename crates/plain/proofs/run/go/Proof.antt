@@ -28,29 +28,29 @@ use Rattle.plain.proofs.run.go.Statement.{statement}
 use Rattle.plain.proofs.run.go.Tie as tie
 
 abbrev Inv-loop : tie.InvT-loop
-Inv-loop count room fuel program stack₀ values₀ labels₀ numbers₀ lines₀ kinds₀ m₀ left₀ stack values labels numbers lines kinds m left =
+Inv-loop count room fuel program stack₀ values₀ labels₀ numbers₀ lines₀ kinds₀ pages₀ m₀ left₀ stack values labels numbers lines kinds pages m left =
     let l₀ = lent stack₀ (cells values₀ labels₀) in
-    let o₀ = output numbers₀ lines₀ kinds₀ in
+    let o₀ = output numbers₀ lines₀ kinds₀ pages₀ in
     let l = lent stack (cells values labels) in
-    let o = output numbers lines kinds in
+    let o = output numbers lines kinds pages in
     (left ≤ fuel) × Going standardRuler count room fuel program tt l₀ o₀ m tt l o (fuel - left) × SameLengths l o l₀ o₀
 
 abbrev μ-loop : tie.MeasureT-loop
-μ-loop count room fuel program stack₀ values₀ labels₀ numbers₀ lines₀ kinds₀ m₀ left₀ stack values labels numbers lines kinds m left = left
+μ-loop count room fuel program stack₀ values₀ labels₀ numbers₀ lines₀ kinds₀ pages₀ m₀ left₀ stack values labels numbers lines kinds pages m left = left
 
 -- the lent runs as they came
 abbrev given : tie.Start Inv-loop μ-loop → Lent
 given s = lent (now (s .args .stack)) (cells (now (s .args .values)) (now (s .args .labels)))
 
 abbrev space : tie.Start Inv-loop μ-loop → Output
-space s = output (now (s .args .numbers)) (now (s .args .line-labels)) (now (s .args .kinds))
+space s = output (now (s .args .numbers)) (now (s .args .line-labels)) (now (s .args .kinds)) (now (s .args .pages))
 
 -- the lent runs at the loop's head
 abbrev runs : tie.At-loop Inv-loop μ-loop → Lent
 runs h = lent (h .loop .stack) (cells (h .loop .values) (h .loop .labels))
 
 abbrev lines : tie.At-loop Inv-loop μ-loop → Output
-lines h = output (h .loop .numbers) (h .loop .line-labels) (h .loop .kinds)
+lines h = output (h .loop .numbers) (h .loop .line-labels) (h .loop .kinds) (h .loop .pages)
 
 -- a command stands at the place
 module _ (a : tie.After-known-told Inv-loop μ-loop) where
@@ -73,11 +73,11 @@ module _ (a : tie.After-known-told Inv-loop μ-loop) where
 -- a command was carried out or stopped, and its line written
 module _ (a : tie.After-machine Inv-loop μ-loop) where
   abbrev wrote : tie.After-emit Inv-loop μ-loop
-  wrote = a .before .before .before .before
+  wrote = a .before .before .before .before .before
 
   abbrev did : tie.After-act Inv-loop μ-loop
   did =
-      let argued = wrote .before .before .before in
+      let argued = wrote .before .before .before .before in
       argued .before .before .before .before
 
   abbrev chose : tie.After-next Inv-loop μ-loop
@@ -105,7 +105,7 @@ module _ (a : tie.After-machine Inv-loop μ-loop) where
   last = let x = did .act .last .1 .1 .1 in lent (x .0) (cells (x .1 .0) (x .1 .1 .0))
 
   abbrev written : Output
-  written = let x = wrote .emit .last .1 .1 .1 in output (x .0) (x .1 .0) (x .1 .1 .0)
+  written = let x = wrote .emit .last .1 .1 .1 in output (x .0) (x .1 .0) (x .1 .1 .0) (x .1 .1 .1 .0)
 
   -- what it comes to, by its words
   abbrev comes : ℤ → ℤ → After
@@ -134,41 +134,44 @@ module _ (a : tie.After-machine Inv-loop μ-loop) where
         numbers = y .0;
         lineLabels = y .1 .0;
         kinds = y .1 .1 .0;
+        pages = y .1 .1 .1 .0;
       })
       (head found .loop .inv .2)
 
 -- the run ends outside: the end line is written, or none
 module _ (a : tie.After-machine2 Inv-loop μ-loop) where
   abbrev outside : tie.After-end-or Inv-loop μ-loop
-  outside = a .before .before .before .before
+  outside = a .before .before .before .before .before
 
   abbrev told : tie.After-enum-told Inv-loop μ-loop
-  told = outside .before .before .before .before
+  told = outside .before .before .before .before .before
 
   abbrev left-at : tie.At-loop Inv-loop μ-loop
   left-at = told .before .before .before .before
 
-  same-outside : SameLengths (runs left-at) (let x = outside .end-or .last .1 .1 .1 .1 in output (x .0) (x .1 .0) (x .1 .1 .0))
+  same-outside : SameLengths (runs left-at)
+      (let x = outside .end-or .last .1 .1 .1 .1 in output (x .0) (x .1 .0) (x .1 .1 .0) (x .1 .1 .1 .0))
       (given (left-at .before .before .before)) (space (left-at .before .before .before))
   same-outside =
       let x = outside .end-or .kept .1 .1 .1 .1 in
-      same-lines (x .0) (x .1 .0) (x .1 .1 .0) (left-at .loop .inv .2)
+      same-lines (x .0) (x .1 .0) (x .1 .1 .0) (x .1 .1 .1 .0) (left-at .loop .inv .2)
 
 -- and where no allowance is left
 module _ (a : tie.After-machine3 Inv-loop μ-loop) where
   abbrev spent : tie.After-end-or2 Inv-loop μ-loop
-  spent = a .before .before .before .before
+  spent = a .before .before .before .before .before
 
   abbrev spent-at : tie.At-loop Inv-loop μ-loop
   spent-at =
-      let argued = spent .before .before .before in
+      let argued = spent .before .before .before .before in
       argued .before .before
 
-  same-spent : SameLengths (runs spent-at) (let x = spent .end-or2 .last .1 .1 .1 .1 in output (x .0) (x .1 .0) (x .1 .1 .0))
+  same-spent : SameLengths (runs spent-at)
+      (let x = spent .end-or2 .last .1 .1 .1 .1 in output (x .0) (x .1 .0) (x .1 .1 .0) (x .1 .1 .1 .0))
       (given (spent-at .before .before .before)) (space (spent-at .before .before .before))
   same-spent =
       let x = spent .end-or2 .kept .1 .1 .1 .1 in
-      same-lines (x .0) (x .1 .0) (x .1 .1 .0) (spent-at .loop .inv .2)
+      same-lines (x .0) (x .1 .0) (x .1 .1 .0) (x .1 .1 .1 .0) (spent-at .loop .inv .2)
 
 -- the three tests hold
 tests : (stack values labels : ℕ) → 768 ≤ stack → values ≤ 1024 → values ≡ labels
@@ -237,6 +240,7 @@ go-spec =
     (λ c. same (c .before) .numbers)
     (λ c. same (c .before) .lineLabels)
     (λ c. same (c .before) .kinds)
+    (λ c. same (c .before) .pages)
     returns-2
     (λ c. let x = chosen (c .before) in omega arith)
     (λ c. let x = chosen (c .before) in omega arith)
@@ -250,6 +254,7 @@ go-spec =
     (λ c. same-outside c .numbers)
     (λ c. same-outside c .lineLabels)
     (λ c. same-outside c .kinds)
+    (λ c. same-outside c .pages)
     returns-3
     (λ c κs. search needs)
     (λ c. search needs)
@@ -259,4 +264,5 @@ go-spec =
     (λ c. same-spent c .numbers)
     (λ c. same-spent c .lineLabels)
     (λ c. same-spent c .kinds)
+    (λ c. same-spent c .pages)
     returns-4)

@@ -6,10 +6,10 @@ use Rattle.readings.proofs.trial.lines.Statement.{statement}
 use Rattle.readings.proofs.trial.lines.Tie as tie
 
 abbrev Inv-loop : tie.InvT-loop
-Inv-loop numbers labels kinds count i₀ i = Unit {0}
+Inv-loop numbers labels kinds pages count i₀ i = Unit {0}
 
 abbrev μ-loop : tie.MeasureT-loop
-μ-loop numbers labels kinds count i₀ i = count - i
+μ-loop numbers labels kinds pages count i₀ i = count - i
 
 loop-holds : tie.Need-loop-holds Inv-loop μ-loop
 loop-holds c = tt

@@ -7,6 +7,7 @@ use mathlib.Core.List.{List}
 use Prim.Native.Nat.{_*_, _-_, _<_, _≤_, min}
 use denote.Ref.{now}
 use lib.ListN.{length}
+use Rattle.program.specs.Command.{isPage}
 use Rattle.machine.specs.Atom.{Line}
 use Rattle.engine.specs.Memory.{Output, output}
 use Rattle.engine.specs.Layout.{lineIn, linesOf}
@@ -18,18 +19,18 @@ use Rattle.report.proofs.print.lines.Statement.{statement}
 use Rattle.report.proofs.print.lines.Tie as tie
 
 abbrev Inv-loop : tie.InvT-loop
-Inv-loop numbers labels kinds written reader out₀ count at₀ i₀ out at i =
-    Printing (reader .0) (linesOf written (output numbers labels kinds)) out₀ out at i
+Inv-loop numbers labels kinds pages written reader out₀ count at₀ i₀ out at i =
+    Printing (reader .0) (linesOf written (output numbers labels kinds pages)) out₀ out at i
 
 abbrev μ-loop : tie.MeasureT-loop
-μ-loop numbers labels kinds written reader out₀ count at₀ i₀ out at i = count - i
+μ-loop numbers labels kinds pages written reader out₀ count at₀ i₀ out at i = count - i
 
 module _ (h : tie.At-loop Inv-loop μ-loop) where
   abbrev start : tie.Start Inv-loop μ-loop
   start = h .before .before .before .before
 
   abbrev space : Output
-  space = output (now (start .args .numbers)) (now (start .args .line-labels)) (now (start .args .kinds))
+  space = output (now (start .args .numbers)) (now (start .args .line-labels)) (now (start .args .kinds)) (now (start .args .pages))
 
   abbrev all : List Line
   all = linesOf (start .args .written) space
@@ -41,8 +42,8 @@ module _ (h : tie.At-loop Inv-loop μ-loop) where
       ∙ ap (λ n. min (start .args .written) n) (h .before .before .room .ensures)
       ∙ sym (lines-length space (start .args .written))
 
-  fits : 30 * length all ≤ length (now (start .args .out))
-  fits = omega (arith, lines-length space (start .args .written), start .pre)
+  fits : 33 * length all ≤ length (now (start .args .out))
+  fits = omega (arith, lines-length space (start .args .written), start .pre .0)
 
 -- a line was read, and written or left out
 module _ (c : tie.After-slice-known2 Inv-loop μ-loop) where
@@ -65,7 +66,10 @@ shown-requires : tie.Need-shown-requires Inv-loop μ-loop
 shown-requires c κs =
     let h = c .before .before .before in
     let i = h .loop .inv in
-    omega (arith, fits h, counted h, c .before .before .loop-test .taken, i .short, i .same)
+    let read = c .before in (
+      omega (arith, fits h, counted h, read .before .loop-test .taken, i .short, i .same),
+      ap (λ (x : Line). isPage (x .page)) (read .line-at .ensures) ∙ start h .pre .1 (h .loop .i),
+    )
 
 add-i : tie.Need-add-i Inv-loop μ-loop
 add-i c = record { fits = omega (arith, read c .before .loop-test .taken, head c .before .shorter .ok) }

@@ -116,13 +116,38 @@ returns-9 c =
 returns-10 : tie.Need-returns-10
 unfolding effectOf
 returns-10 c =
-    let at-if9 = c .before .before in
+    let at-if10 = c .before .before in
+    let at-if9 = at-if10 .before in
     let at-if7 = at-if9 .before in
     let at-if5 = at-if7 .before in
     let at-if1 = at-if5 .before in
     let start = at-if1 .before in
-    rw (le-ltb _ _ (at-if1 .if1 .left), le-ltb _ _ (at-if5 .if5 .left), le-ltb _ _ (at-if7 .if7 .left), ne-eqb _ _ (at-if9 .if9 .left))
+    rw (
+      le-ltb _ _ (at-if1 .if1 .left),
+      le-ltb _ _ (at-if5 .if5 .left),
+      le-ltb _ _ (at-if7 .if7 .left),
+      ne-eqb _ _ (at-if9 .if9 .left),
+      eq-eqb _ _ (at-if10 .if10 .taken),
+    )
     (ap ((λ r. after r (runs start))) (c .jump2 .ensures))
+
+returns-11 : tie.Need-returns-11
+unfolding effectOf
+returns-11 c =
+    let at-if10 = c .before .before in
+    let at-if9 = at-if10 .before in
+    let at-if7 = at-if9 .before in
+    let at-if5 = at-if7 .before in
+    let at-if1 = at-if5 .before in
+    let start = at-if1 .before in
+    rw (
+      le-ltb _ _ (at-if1 .if1 .left),
+      le-ltb _ _ (at-if5 .if5 .left),
+      le-ltb _ _ (at-if7 .if7 .left),
+      ne-eqb _ _ (at-if9 .if9 .left),
+      ne-eqb _ _ (at-if10 .if10 .left),
+    )
+    (ap ((λ r. after r (runs start))) (c .output2 .ensures) ∙ rw (back {z = start .args .operand} (start .fits .operand)))
 
 pub effect-spec : {M : Type 1} → statement M
 effect-spec =
@@ -159,4 +184,7 @@ effect-spec =
     returns-9
     (λ c κs. search needs)
     (λ c. search needs)
-    returns-10)
+    returns-10
+    (λ c κs. search needs)
+    (λ c. search needs)
+    returns-11)

@@ -1,7 +1,7 @@
 -- `step::effect::output` meets its contract.
 -- Assumes nothing.
 use native.Mathlib.Omega.{arith}
-use Rattle.word.proofs.Signed.{back-ok}
+use Rattle.word.proofs.Signed.{back, back-ok}
 use Rattle.step.specs.Effect.{outputEffect}
 use borrow.Author.Needs.{needs}
 use Rattle.step.proofs.effect.output.Statement.{statement}
@@ -18,6 +18,7 @@ returns c =
       c .printing .ensures,
       at-following .following .ensures,
       at-drop .drop .ensures,
+      back {z = at-look .before .args .page} (at-look .before .fits .page),
       back-ok (at-look .look .result .number) (omega (arith, at-look .look .ok)),
     )
 

@@ -71,7 +71,8 @@ returns-7 c =
 returns-8 : tie.Need-returns-8
 unfolding findOf
 returns-8 c =
-    let at-if7 = c .before in
+    let at-if8 = c .before in
+    let at-if7 = at-if8 .before in
     let at-if6 = at-if7 .before in
     let at-if4 = at-if6 .before in
     let at-if1 = at-if4 .before in
@@ -80,7 +81,25 @@ returns-8 c =
       le-ltb _ _ (at-if4 .if4 .left),
       le-ltb _ _ (at-if6 .if6 .left),
       ne-eqb _ _ (at-if7 .if7 .left),
+      eq-eqb _ _ (at-if8 .if8 .taken),
       c .one-frame .ensures,
+    )
+
+returns-9 : tie.Need-returns-9
+unfolding findOf
+returns-9 c =
+    let at-if8 = c .before in
+    let at-if7 = at-if8 .before in
+    let at-if6 = at-if7 .before in
+    let at-if4 = at-if6 .before in
+    let at-if1 = at-if4 .before in
+    rw (
+      le-ltb _ _ (at-if1 .if1 .left),
+      le-ltb _ _ (at-if4 .if4 .left),
+      le-ltb _ _ (at-if6 .if6 .left),
+      ne-eqb _ _ (at-if7 .if7 .left),
+      ne-eqb _ _ (at-if8 .if8 .left),
+      c .one-value3 .ensures,
     )
 
 pub find-spec : {M : Type 1} → statement M
@@ -102,4 +121,6 @@ find-spec =
     (λ c κs. search needs)
     returns-7
     (λ c κs. search needs)
-    returns-8)
+    returns-8
+    (λ c κs. search needs)
+    returns-9)

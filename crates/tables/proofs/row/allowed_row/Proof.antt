@@ -1,6 +1,6 @@
 -- `tables::row::allowed_row` meets its contract: by the command's shape, the row's labels and the verdict.
 -- Assumes nothing.
-use mathlib.Core.Path.{_∙_, sym, refl}
+use mathlib.Core.Path.{_∙_, sym}
 use denote.Ref.{now}
 use Rattle.word.proofs.Signed.{back-ok}
 use Rattle.program.specs.Command.{opcodeOf}
@@ -15,8 +15,7 @@ rule-of-requires c κs =
     let s = c .before .before .before .before .before in
     let h = s .before .before in
     let a = h .before .before in
-    let r = shape-rule (a .args .code) (opcodeOf (a .args .code)) _ _ _ refl (sym (h .shape-of .ensures) ∙ s .shape .given .1) in
-    (a .pre, r .0, r .1)
+    (a .pre, shape-rule (opcodeOf (a .args .code)) (sym (h .shape-of .ensures) ∙ s .shape .given .1))
 
 returns : tie.Need-returns
 returns c =
@@ -30,7 +29,7 @@ returns-2 c =
     let s = l .before .before in
     let h = s .before .before in
     let a = h .before .before .args in
-    row-nothing (readTable (now (a .bytes))) (a .cache .words) (opcodeOf (a .code)) _ _ _
+    row-nothing (readTable (now (a .bytes))) (a .cache .words) (opcodeOf (a .code))
     (sym (h .shape-of .ensures) ∙ s .shape .given .1) (sym (l .row-labels .ensures) ∙ c .enum-told2 .given .1)
 
 returns-3 : tie.Need-returns-3
@@ -44,12 +43,11 @@ returns-3 c =
     let a = h .before .before .args in
     rw (
       c .agrees .ensures,
-      v .rule-of .ensures,
       back-ok (g .before .get .result) (g .before .get .ok) ∙ g .before .get .ensures,
       back-ok (g .get2 .result) (g .get2 .ok) ∙ g .get2 .ensures,
     )
-    (row-found (readTable (now (a .bytes))) (a .cache .words) (opcodeOf (a .code)) _ _ _ (f .found .given .0 .0)
-    (sym (h .shape-of .ensures) ∙ s .shape .given .1) (sym (l .row-labels .ensures) ∙ f .found .given .1))
+    (row-found (readTable (now (a .bytes))) (a .cache .words) (opcodeOf (a .code)) (f .found .given .0 .0) (v .rule-of .result)
+    (sym (h .shape-of .ensures) ∙ s .shape .given .1) (sym (l .row-labels .ensures) ∙ f .found .given .1) (v .rule-of .ensures))
 
 pub allowed-row-spec : {M : Type 1} → statement M
 allowed-row-spec =

@@ -29,19 +29,19 @@ use Rattle.tagged.proofs.run.go.Statement.{statement}
 use Rattle.tagged.proofs.run.go.Tie as tie
 
 abbrev Inv-loop : tie.InvT-loop
-Inv-loop count room fuel program space size stack₀ values₀ labels₀ numbers₀ line-labels₀ kinds₀
-    m₀ cache₀ steps₀ faults₀ kernel₀ stack values labels numbers line-labels kinds m cache steps faults kernel =
+Inv-loop count room fuel program space size stack₀ values₀ labels₀ numbers₀ line-labels₀ kinds₀ pages₀
+    m₀ cache₀ steps₀ faults₀ kernel₀ stack values labels numbers line-labels kinds pages m cache steps faults kernel =
     let l₀ = lent stack₀ (cells values₀ labels₀) in
-    let o₀ = output numbers₀ line-labels₀ kinds₀ in
+    let o₀ = output numbers₀ line-labels₀ kinds₀ pages₀ in
     let l = lent stack (cells values labels) in
-    let o = output numbers line-labels kinds in
+    let o = output numbers line-labels kinds pages in
     let u = tag (cache .words) faults kernel in
     Going (tagWords (handleSpace space size)) count room fuel program (tag (cache₀ .words) 0 0) l₀ o₀ m u l o steps
     × SameLengths l o l₀ o₀ × Few size steps u
 
 abbrev μ-loop : tie.MeasureT-loop
-μ-loop count room fuel program space size stack₀ values₀ labels₀ numbers₀ line-labels₀ kinds₀
-    m₀ cache₀ steps₀ faults₀ kernel₀ stack values labels numbers line-labels kinds m cache steps faults kernel =
+μ-loop count room fuel program space size stack₀ values₀ labels₀ numbers₀ line-labels₀ kinds₀ pages₀
+    m₀ cache₀ steps₀ faults₀ kernel₀ stack values labels numbers line-labels kinds pages m cache steps faults kernel =
     fuel - steps
 
 -- the lent runs as they came, and at the loop's head
@@ -49,27 +49,27 @@ abbrev given : tie.Start Inv-loop μ-loop → Lent
 given s = lent (now (s .args .stack)) (cells (now (s .args .values)) (now (s .args .labels)))
 
 abbrev empty : tie.Start Inv-loop μ-loop → Output
-empty s = output (now (s .args .numbers)) (now (s .args .line-labels)) (now (s .args .kinds))
+empty s = output (now (s .args .numbers)) (now (s .args .line-labels)) (now (s .args .kinds)) (now (s .args .pages))
 
 abbrev runs : tie.At-loop Inv-loop μ-loop → Lent
 runs h = lent (h .loop .stack) (cells (h .loop .values) (h .loop .labels))
 
 abbrev written : tie.At-loop Inv-loop μ-loop → Output
-written h = output (h .loop .numbers) (h .loop .line-labels) (h .loop .kinds)
+written h = output (h .loop .numbers) (h .loop .line-labels) (h .loop .kinds) (h .loop .pages)
 
 -- the line's writing, where the run ends with the command and where it goes on
 abbrev ending : tie.After-ended Inv-loop μ-loop → tie.After-emit Inv-loop μ-loop
-ending c = c .before .before .before .before .before .before .before .before .before
+ending c = c .before .before .before .before .before .before .before .before .before .before
 
 abbrev going : tie.Else1 Inv-loop μ-loop → tie.After-emit Inv-loop μ-loop
-going c = c .before .before .before .before .before .before .before .before
+going c = c .before .before .before .before .before .before .before .before .before
 
 -- the end line's writing, where the place is outside and where the allowance is spent
 abbrev outside : tie.After-ended2 Inv-loop μ-loop → tie.After-end-or Inv-loop μ-loop
-outside c = c .before .before .before .before .before
+outside c = c .before .before .before .before .before .before
 
 abbrev spent : tie.After-ended3 Inv-loop μ-loop → tie.After-end-or2 Inv-loop μ-loop
-spent c = c .before .before .before .before .before
+spent c = c .before .before .before .before .before .before
 
 -- a command stands at the place
 module _ (k : tie.After-known-told Inv-loop μ-loop) where
@@ -101,7 +101,7 @@ module _ (k : tie.After-known-told Inv-loop μ-loop) where
 -- it was carried out or stopped, and its line written
 module _ (e : tie.After-emit Inv-loop μ-loop) where
   abbrev done-act : tie.After-act Inv-loop μ-loop
-  done-act = e .before .before .before .before .before .before .before .before
+  done-act = e .before .before .before .before .before .before .before .before .before
 
   abbrev found : tie.After-known-told Inv-loop μ-loop
   found = done-act .before .before .before .before .before .before
@@ -114,7 +114,7 @@ module _ (e : tie.After-emit Inv-loop μ-loop) where
   last = let x = done-act .act .last .1 .1 .1 .1 .1 .1 in lent (x .0) (cells (x .1 .0) (x .1 .1 .0))
 
   abbrev lines : Output
-  lines = let x = e .emit .last .1 .1 .1 in output (x .0) (x .1 .0) (x .1 .1 .0)
+  lines = let x = e .emit .last .1 .1 .1 in output (x .0) (x .1 .0) (x .1 .1 .0) (x .1 .1 .1 .0)
 
   -- the counts before it, and what it adds
   abbrev before : Tag
@@ -162,37 +162,38 @@ module _ (e : tie.After-emit Inv-loop μ-loop) where
         numbers = y .0;
         lineLabels = y .1 .0;
         kinds = y .1 .1 .0;
+        pages = y .1 .1 .1 .0;
       })
       (head found .loop .inv .1)
 
 -- the place is outside, and the end line is written if it is the end
 module _ (e : tie.After-end-or Inv-loop μ-loop) where
   abbrev told : tie.After-enum-told Inv-loop μ-loop
-  told = e .before .before .before .before
+  told = e .before .before .before .before .before
 
   abbrev head-outside : tie.At-loop Inv-loop μ-loop
   head-outside = told .before .before .before .before
 
   abbrev lines-outside : Output
-  lines-outside = let x = e .end-or .last .1 .1 .1 .1 in output (x .0) (x .1 .0) (x .1 .1 .0)
+  lines-outside = let x = e .end-or .last .1 .1 .1 .1 in output (x .0) (x .1 .0) (x .1 .1 .0) (x .1 .1 .1 .0)
 
   same-outside : SameLengths (runs head-outside) lines-outside (given (head-outside .before .before)) (empty (head-outside .before .before))
   same-outside =
       let y = e .end-or .kept .1 .1 .1 .1 in
-      same-lines (y .0) (y .1 .0) (y .1 .1 .0) (head-outside .loop .inv .1)
+      same-lines (y .0) (y .1 .0) (y .1 .1 .0) (y .1 .1 .1 .0) (head-outside .loop .inv .1)
 
 -- the allowance is spent, and the end line likewise
 module _ (e : tie.After-end-or2 Inv-loop μ-loop) where
   abbrev head-spent : tie.At-loop Inv-loop μ-loop
-  head-spent = e .before .before .before .before .before
+  head-spent = e .before .before .before .before .before .before
 
   abbrev lines-spent : Output
-  lines-spent = let x = e .end-or2 .last .1 .1 .1 .1 in output (x .0) (x .1 .0) (x .1 .1 .0)
+  lines-spent = let x = e .end-or2 .last .1 .1 .1 .1 in output (x .0) (x .1 .0) (x .1 .1 .0) (x .1 .1 .1 .0)
 
   same-spent : SameLengths (runs head-spent) lines-spent (given (head-spent .before .before)) (empty (head-spent .before .before))
   same-spent =
       let y = e .end-or2 .kept .1 .1 .1 .1 in
-      same-lines (y .0) (y .1 .0) (y .1 .1 .0) (head-spent .loop .inv .1)
+      same-lines (y .0) (y .1 .0) (y .1 .1 .0) (y .1 .1 .1 .0) (head-spent .loop .inv .1)
 
 -- what is handed back
 left-as : (r : Left) (l : Lent) (o : Output) {q : Left} {w : Done Tag} → r ≡ q
@@ -214,12 +215,12 @@ add-at c = record { fits = omega (arith, inside (c .before), start (c .before) .
 
 add-faults : tie.Need-add-faults Inv-loop μ-loop
 add-faults c =
-    let e = c .before .before .before .before .before .before in
+    let e = c .before .before .before .before .before .before .before in
     record { fits = faults-fit (head (found e) .loop .inv .2) (adds-few e) (start (found e) .pre .1) (below e) }
 
 add-kernel : tie.Need-add-kernel Inv-loop μ-loop
 add-kernel c =
-    let e = c .before .before .before .before .before .before .before in
+    let e = c .before .before .before .before .before .before .before .before in
     record { fits = steps-fit (head (found e) .loop .inv .2) (adds-few e) (start (found e) .pre .1) (below e) }
 
 returns : tie.Need-returns Inv-loop μ-loop
@@ -258,7 +259,7 @@ returns-3 c =
     let h = head-spent e in
     left-as (c .ended3 .result) (runs h) (lines-spent e) (c .ended3 .ensures)
     (going-end _ _ _ _ _ _ _ _ _ _ _ _ _ (h .loop .inv .0) (e .end-or2 .result) (lines-spent e) (e .end-or2 .ensures)
-    (e .before .before .before .before .loop-test .left))
+    (e .before .before .before .before .before .loop-test .left))
 
 pub go-spec : {M : Type 1} → statement M
 go-spec =
@@ -286,6 +287,7 @@ go-spec =
     (λ c. same (ending c) .numbers)
     (λ c. same (ending c) .lineLabels)
     (λ c. same (ending c) .kinds)
+    (λ c. same (ending c) .pages)
     returns
     add-steps
     loop-less
@@ -299,6 +301,7 @@ go-spec =
     (λ c. same-outside (outside c) .numbers)
     (λ c. same-outside (outside c) .lineLabels)
     (λ c. same-outside (outside c) .kinds)
+    (λ c. same-outside (outside c) .pages)
     returns-2
     (λ c κs. search needs)
     (λ c κs. search needs)
@@ -308,4 +311,5 @@ go-spec =
     (λ c. same-spent (spent c) .numbers)
     (λ c. same-spent (spent c) .lineLabels)
     (λ c. same-spent (spent c) .kinds)
+    (λ c. same-spent (spent c) .pages)
     returns-3)
