@@ -25,7 +25,7 @@ use Rattle.tagged.specs.Tagged.{Left, left}
 use Rattle.report.specs.Job.{Heard, Ending, sheet, readJob, sheetFrom, sheetOf}
 use Rattle.report.specs.Job as Job
 use Rattle.report.specs.Lines.{lineText, linesText}
-use Rattle.report.specs.Page.{zeros, lentFor, endFor, answerText, endedText, runText, readingText, pageOf, pageLimit}
+use Rattle.report.specs.Page.{zeros, lentFor, handlerSpace, endFor, answerText, endedText, runText, readingText, pageOf, pageLimit}
 use Rattle.claims.specs.Privacy.{Ran, onTagged, linesIn, Views}
 use Rattle.claims.specs.Pages.{readerOf, cellWordsOf, cellsGiven, answered, fateFrom, fateOf, Related, Claim, Says, Unrun, Printed}
 use Rattle.claims.specs.Pages as Pages
@@ -74,7 +74,7 @@ shown-run h bytes e =
           ran = ran;
           lines = linesIn ran m;
           stopped = ap (λ (x : Left). x .ended .answer) d;
-          by = onTagged (zeros 7) refl (lentFor (cellWordsOf h)) (zeros 304) (h .allowance) ran u m handler d;
+          by = onTagged (zeros 7) refl (lentFor (cellWordsOf h)) handlerSpace (h .allowance) ran u m handler d;
           is = lines-view (h .reader) (linesIn ran m);
         }
 

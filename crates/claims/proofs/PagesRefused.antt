@@ -21,7 +21,7 @@ use Rattle.policy.specs.Standard.{standardBytes}
 use Rattle.tagged.specs.Tagged.{startTagged, taggedOf, tagged}
 use Rattle.report.specs.Job.{Heard, Ending, bad, sheet, readJob, sheetFrom, sheetOf}
 use Rattle.report.specs.Lines.{jobText, refusedText}
-use Rattle.report.specs.Page.{zeros, lentFor, endFor, pageOf}
+use Rattle.report.specs.Page.{zeros, lentFor, handlerSpace, endFor, pageOf}
 use Rattle.report.proofs.Paging.{Few, few}
 use Rattle.claims.specs.Pages.{cellWordsOf, allowanceOf, Fate, answered, fateFrom, fateOf, Says, Read}
 use Rattle.claims.specs.Pages.{Refusals, Whole}
@@ -35,7 +35,7 @@ startFate (accepted cs) = Pages.ran
 
 -- what the start of a job comes to, with the page program's spaces
 abbrev started : Heard → List ℕ → Decoded
-started h bytes = startTagged bytes (readTable standardBytes) (zeros 7) (lentFor (cellWordsOf h)) (zeros 304) (h .allowance)
+started h bytes = startTagged bytes (readTable standardBytes) (zeros 7) (lentFor (cellWordsOf h)) handlerSpace (h .allowance)
 
 -- the fate of a sheet with an allowance, and no cells
 abbrev without : ℕ → Heard
@@ -63,7 +63,7 @@ module _ (h : Heard) (few : Few h) (labels : labelsLimit 0 (h .labels) ≡ Kept)
   start-answered = go (started h bytes)
     where
       go : (d : Decoded)
-          → answered (taggedOf d (readTable standardBytes) (zeros 7) (lentFor (cellWordsOf h)) (zeros 304) (h .allowance) .ended .answer)
+          → answered (taggedOf d (readTable standardBytes) (zeros 7) (lentFor (cellWordsOf h)) handlerSpace (h .allowance) .ended .answer)
           ≡ startFate d
       go (refused r) = refl
       go (accepted cs) = refl

@@ -19,7 +19,7 @@ use Rattle.plain.specs.Plain.{plain}
 use Rattle.policy.specs.Standard.{standardBytes}
 use Rattle.tagging.specs.Consult.{Tag}
 use Rattle.tagged.specs.Tagged.{tagged}
-use Rattle.report.specs.Page.{zeros, lentFor, pageOf}
+use Rattle.report.specs.Page.{zeros, lentFor, handlerSpace, pageOf}
 use Rattle.claims.specs.Privacy.{cellsIn, linesIn}
 
 -- ════════════════════════════════════════════════════════════════════════════════════════════
@@ -59,7 +59,7 @@ lentTo s =
 
 -- the tag engine on the sheet's bytes and the standard table
 abbrev pub execute : Setting → Ended Tag
-execute s = tagged (encode (s .program)) standardBytes (s .row) (lentTo s) (zeros (2 * 152)) (s .fuel) .ended
+execute s = tagged (encode (s .program)) standardBytes (s .row) (lentTo s) handlerSpace (s .fuel) .ended
 
 abbrev pub ending : Answer → Memory → Given
 ending (Answer.Refused r) m = refused (r .code) (r .position)
@@ -91,12 +91,9 @@ expected facts = map (λ (f : Fact). f .said) facts
 abbrev pub fact : Question → Given → Fact
 fact q g = record { asked = q; said = g }
 
--- a line on page 0, and on another
+-- a line on page 0
 abbrev pub line : ℤ → ℕ → Line
 line n l = numberLine (pos 0) n l
-
-abbrev pub lineOn : ℤ → ℤ → ℕ → Line
-lineOn k n l = numberLine k n l
 
 -- the end line alone, with the label of the place
 abbrev pub ends : ℕ → List Line
@@ -278,7 +275,7 @@ others =
     ∷ each (narrow 1 1_000_000 (Push (pos 1) ∷ Output ∷ [])) (run 8 2 (line (pos 1) 0 ∷ []))
     ∷ each (narrow 0 1 (Push (pos 1) ∷ [])) (run 8 1 [])
     -- OutputTo writes to its page, Output and the end line to page 0; for reader 0 the page has page 0's lines only
-    ∷ (each (usual paging) (run 0 6 (lineOn (pos 15) (pos 5) 1 ∷ line (pos 7) 0 ∷ ends 0))
+    ∷ (each (usual paging) (run 0 6 (numberLine (pos 15) (pos 5) 1 ∷ line (pos 7) 0 ∷ ends 0))
     ++ (fact (pageFor (jobOf (encode paging) (reader 1))) (page (lineFive ++ lineSeven ++ lineEnd))
     ∷ fact (pageFor (jobOf (encode paging) (reader 0))) (page (lineSeven ++ lineEnd))
     ∷ []))

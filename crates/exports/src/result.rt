@@ -91,7 +91,7 @@ pub(crate) fn of_page(made: Outcome) -> LuvrodanPageResult
         },
         Outcome::Short => LuvrodanPageResult {
             status: 1,
-            length: 33792,
+            length: report::PAGE_LIMIT as u64,
         },
     }
 }

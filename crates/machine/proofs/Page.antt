@@ -1,13 +1,13 @@
 -- Pages (specs/Page.antt): a start of a list of lines is one on each page, and the lines of a run are on the pages that its commands name.
 -- Assumes nothing.
-use mathlib.Core.Path.{_≡_, refl, sym, ap, subst, _∙_}
-use mathlib.Core.Logic.{_⊎_, inl, inr}
+use mathlib.Core.Path.{_≡_, refl, sym, ap, _∙_}
+use mathlib.Core.Logic.{inl, inr}
 use mathlib.Core.Bool.{Bool, true, false}
 use mathlib.Core.List.{List, [], _∷_, _++_}
-use Prim.Native.Nat.{ℕ, zero, suc}
+use Prim.Native.Nat.{ℕ}
 use lib.IntN.{ℤ, pos, negsuc, _+ℤ_, _-ℤ_}
 use lib.Dec.{ltb}
-use lib.ListN.{length, take, drop, take-append-drop}
+use lib.ListN.{length, drop, take-append-drop}
 use lib.Seq.{take-append-seam}
 use Rattle.program.specs.declared.Command.{Command}
 use Rattle.program.specs.declared.Command.the-variants.{Add, Sub, Pop, Output, Push, Load, Store, Jump, Bnz, Call, Ret, OutputTo}
@@ -16,18 +16,19 @@ use Rattle.program.specs.Decode.{accepted, decode}
 use Rattle.program.proofs.Encoding.{decoded-writable}
 use Rattle.program.proofs.Words.{writable-at}
 use Rattle.word.specs.Exact.{isSigned}
+use Rattle.word.specs.Number.{sameWord}
 use Rattle.word.specs.Field.{Bytes}
 use Rattle.word.proofs.Bool.{never}
-use Rattle.machine.specs.Atom.{Atom, Entry, Line, numberLine, endLine}
+use Rattle.machine.specs.Atom.{Line, numberLine, endLine}
 use Rattle.machine.specs.Rule.{Verdict, denied, allowed, Policy, standard, Ruler, rules, fixed}
 use Rattle.machine.specs.State.{State, start, overflow, stackFull, outputFull}
 use Rattle.machine.specs.Step.{Request, halt, ask, stackLimit, keyOf, decide, consult, making, outputting, request, execute}
-use Rattle.machine.specs.Run.{run, step}
+use Rattle.machine.specs.Run.{run}
 use Rattle.machine.specs.Stopped.{CommandAt, Writes, plain, to}
 use Rattle.machine.specs.Holds.{Each}
 use Rattle.machine.specs.Claim.{keep, Start, OneStartsOther, Views}
 use Rattle.machine.specs.End.{Tells}
-use Rattle.machine.specs.Page.{samePage, onPage, TellsPage, PagesPrivate, PagesGiven, OnPages, PagesKept}
+use Rattle.machine.specs.Page.{onPage, TellsPage, PagesPrivate, PagesGiven, PagesKept}
 use Rattle.machine.proofs.Request.{value-all, values-all, frame-all, cell-all, provided-all}
 use Rattle.machine.proofs.Step.{Gives, gives-stepped, step-all, run-keeps}
 use Rattle.machine.proofs.Holds.{each-snoc}
@@ -41,7 +42,7 @@ use Rattle.machine.proofs.End.{complete}
 module _ (page : ℤ) where
   page-append : (ls ms : List Line) → onPage page (ls ++ ms) ≡ onPage page ls ++ onPage page ms
   page-append [] ms = refl
-  page-append (l ∷ ls) ms = rw (page-append ls ms) (go (samePage (l .page) page))
+  page-append (l ∷ ls) ms = rw (page-append ls ms) (go (sameWord (l .page) page))
     where
       go : (b : Bool) → keep b l (onPage page ls ++ onPage page ms) ≡ keep b l (onPage page ls) ++ onPage page ms
       go true = refl

@@ -2,10 +2,10 @@
 -- proofs/Page.antt proves it.
 use Prim.Native.Nat.{ℕ}
 use mathlib.Core.Path.{_≡_}
-use mathlib.Core.Bool.{Bool, true, false}
+use mathlib.Core.Bool.{true}
 use mathlib.Core.List.{List, [], _∷_}
-use lib.IntN.{ℤ, pos, negsuc}
-use lib.Dec.{eqb}
+use lib.IntN.{ℤ}
+use Rattle.word.specs.Number.{sameWord}
 use Rattle.program.specs.declared.Command.{Command}
 use Rattle.program.specs.declared.Command.the-variants.{OutputTo}
 use Rattle.program.specs.Command.{isPage}
@@ -18,16 +18,10 @@ use Rattle.machine.specs.Holds.{Each}
 use Rattle.machine.specs.Claim.{keep, Start, OneStartsOther, Refines, Views}
 use Rattle.machine.specs.End.{hasEnd}
 
-abbrev pub samePage : ℤ → ℤ → Bool
-samePage (pos a) (pos b) = eqb a b
-samePage (pos a) (negsuc b) = false
-samePage (negsuc a) (pos b) = false
-samePage (negsuc a) (negsuc b) = eqb a b
-
 -- the lines of a page, in order
 abbrev pub onPage : ℤ → List Line → List Line
 onPage page [] = []
-onPage page (l ∷ ls) = keep (samePage (l .page) page) l (onPage page ls)
+onPage page (l ∷ ls) = keep (sameWord (l .page) page) l (onPage page ls)
 
 -- what one view tells of another on a page: one list is the start of the other; if the view has an end line, on whichever page that stands,
 -- the other's page is a start of its own; if both have one, the two pages are equal

@@ -12,8 +12,8 @@ ghost use Rattle.engine.specs.Memory.{output, memory};
 ghost use Rattle.engine.specs.Ended.{ended};
 ghost use Rattle.plain.specs.Plain.{plain};
 
-// Checks everything, and then runs the sheet on the lent cells to one named stop. A refusal, of 1 to 3, 12, 4, 5, 8 at 1 or 2, or 9, leaves every
-// lent run as it came.
+// Checks everything, and then runs the sheet on the lent cells to one named stop. A refusal, of 1 to 3, 12, 4, 5, 8 at 1 or 2, or 9,
+// leaves every lent run as it came.
 pub fn execute(
     sheet: &[u8],
     values: &mut [i64],

@@ -1,4 +1,5 @@
--- The commands of document 01, and OutputTo of request U4: the table of them, and how a command is put together from its opcode and its operand.
+-- The commands of document 01, and OutputTo of request U4: the table of them, and how a command is put together from its opcode and its
+-- operand.
 use Prim.Native.Nat.{ℕ, zero, suc, _*_}
 use Prim.Native.String.{String}
 use mathlib.Core.Bool.{Bool, true, false}

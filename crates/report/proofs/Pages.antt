@@ -1,11 +1,10 @@
 -- The pages of the page program's run: every word of that run is one of the sixteen.
 -- Assumes nothing.
 use mathlib.Core.Path.{_≡_, refl, ap, _∙_}
-use mathlib.Core.Bool.{true}
 use mathlib.Core.List.{List, [], _∷_, _++_}
-use Prim.Native.Nat.{ℕ, zero, suc, _*_}
+use Prim.Native.Nat.{ℕ, zero, suc}
 use lib.IntN.{ℤ, pos}
-use lib.ListN.{length, drop, getD, replicate}
+use lib.ListN.{length, drop}
 use lib.Seq.{getD-drop}
 use Rattle.word.specs.Field.{Bytes}
 use Rattle.word.specs.Lay.{laid}
@@ -26,7 +25,7 @@ use Rattle.tagging.specs.Consult.{Tag, tagRuler}
 use Rattle.tagged.specs.Start.{ownOf}
 use Rattle.tagged.specs.Tagged.{tagOf, startTagged, taggedOf, tagged}
 use Rattle.report.specs.Lines.{PageWords}
-use Rattle.report.specs.Page.{zeros, lentFor, endFor}
+use Rattle.report.specs.Page.{zeros, lentFor, handlerSpace, endFor}
 
 zero-pages : (n : ℕ) → PageWords (zeros n)
 zero-pages zero i = refl
@@ -49,20 +48,17 @@ module _ (c : Cells) (allowance : ℕ) (sheet : List ℕ) (bytes : Bytes sheet) 
   abbrev m : Memory
   m = lentFor c
 
-  abbrev handler : List ℤ
-  handler = zeros (2 * 152)
-
   abbrev PagesIn : Decoded → Type 0
-  PagesIn d = PageWords (taggedOf d (readTable standardBytes) (zeros 7) m handler allowance .ended .memory .output .pages)
+  PagesIn d = PageWords (taggedOf d (readTable standardBytes) (zeros 7) m handlerSpace allowance .ended .memory .output .pages)
 
   pub end-pages : PageWords (endFor c allowance sheet .ended .memory .output .pages)
   unfolding tagged
-  end-pages = by (startTagged sheet (readTable standardBytes) (zeros 7) m handler allowance) refl
+  end-pages = by (startTagged sheet (readTable standardBytes) (zeros 7) m handlerSpace allowance) refl
     where
-      by : (d : Decoded) → startTagged sheet (readTable standardBytes) (zeros 7) m handler allowance ≡ d → PagesIn d
+      by : (d : Decoded) → startTagged sheet (readTable standardBytes) (zeros 7) m handlerSpace allowance ≡ d → PagesIn d
       by (refused r) e = zero-pages 1024
       by (accepted cs) e =
-          let own = ownOf (readTable standardBytes) (zeros 7) (length handler) in
+          let own = ownOf (readTable standardBytes) (zeros 7) (length handlerSpace) in
           let fine = start-fine sheet m allowance own cs e in
           let ρ = tagRuler (handlerOf (readTable standardBytes)) in
           laid-pages (resultOf ρ cs (tagOf (zeros 7)) m allowance .state .lines) (zeros 1024)

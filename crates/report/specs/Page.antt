@@ -28,9 +28,13 @@ zeros n = replicate n (pos 0)
 abbrev pub lentFor : Cells → Memory
 lentFor c = memory (zeros (2 * 4096)) (lent (zeros (3 * 256)) c) (output (zeros 1024) (zeros 1024) (zeros 1024) (zeros 1024))
 
--- the tag engine, standard table and empty rule memory, with space for the standard table's handler, which has 152 commands
+-- and space for the standard table's handler, which has 152 commands of two words
+abbrev pub handlerSpace : List ℤ
+handlerSpace = zeros (2 * 152)
+
+-- the tag engine, standard table and empty rule memory
 abbrev pub endFor : Cells → (allowance : ℕ) → List ℕ → Left
-endFor c allowance bytes = tagged bytes standardBytes (zeros 7) (lentFor c) (zeros (2 * 152)) allowance
+endFor c allowance bytes = tagged bytes standardBytes (zeros 7) (lentFor c) handlerSpace allowance
 
 -- a refusal prints only itself; else the lines written that the reader may see
 abbrev pub answerText : (reader : ℕ) → Answer → Output → List ℕ

@@ -11,10 +11,12 @@ use lib.Dec.{eqb}
 use borrow.Author.Tests.{eqb-true, eq-eqb}
 use mir.Syntax.{w64}
 use mir.Val.{SFits, toZ, ofZ}
+use Rattle.word.specs.Number.{sameWord}
 use Rattle.word.proofs.Signed.{back, back-ok}
+use Rattle.word.proofs.Laws.Test.{same-word, word-same}
 use Rattle.handler.specs.Kernel.{Outcome, Result}
-use Rattle.tagging.specs.Consult.{sameWord, Five, matches, missed, Consulted, faulted, consultIf, consult}
-use Rattle.tagging.proofs.Rules.{words-all, same-word, word-same}
+use Rattle.tagging.specs.Consult.{Five, matches, missed, Consulted, faulted, consultIf, consult}
+use Rattle.tagging.proofs.Rules.{words-all}
 use Rattle.tagged.specs.Ruling.{ruling}
 
 -- words are compared by their bits

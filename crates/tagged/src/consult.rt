@@ -9,7 +9,8 @@ ghost use mathlib.Core.Bool.{true, false};
 ghost use lib.IntN.{pos};
 ghost use lib.ListN.{getD, length};
 ghost use Rattle.handler.specs.Space.{handleSpace};
-ghost use Rattle.tagging.specs.Consult.{sameWord, matches, missed, consult};
+ghost use Rattle.word.specs.Number.{sameWord};
+ghost use Rattle.tagging.specs.Consult.{matches, missed, consult};
 ghost use Rattle.tagged.specs.Ruling.{inputWord, fiveFor, fiveOf, rulingOf, ruling, ruledAgain};
 
 // The five words that a command asks with: code, P, L1, L2, L3; missing inputs are -1.

@@ -22,8 +22,8 @@ pub struct Tagged {
 }
 
 // Checks everything, and then runs the sheet on the lent cells to one named stop, under the rules of the table. A refusal, of 1 to 9 or 12
-// with its place, leaves every lent run and the rule memory as they came. The run is that of reading the table directly, by a handler that never
-// fails.
+// with its place, leaves every lent run and the rule memory as they came. The run is that of reading the table directly, by a handler
+// that never fails.
 pub fn execute(
     sheet: &[u8],
     values: &mut [i64],

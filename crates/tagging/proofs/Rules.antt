@@ -5,10 +5,11 @@ use mathlib.Core.Bool.{Bool, true, false, _&&_}
 use mathlib.Core.List.{List, [], _∷_}
 use Prim.Native.Nat.{ℕ, zero, suc}
 use native.Mathlib.Omega.{arith}
-use lib.IntN.{ℤ, pos, negsuc}
+use lib.IntN.{ℤ, pos}
 use lib.ListN.{length}
-use borrow.Author.Tests.{eqb-true, eq-eqb}
+use Rattle.word.specs.Number.{sameWord}
 use Rattle.word.proofs.Bool.{never}
+use Rattle.word.proofs.Laws.Test.{same-word, word-same}
 use Rattle.program.specs.Command.{codeOf}
 use Rattle.machine.specs.Rule.{inputWord, Key, Verdict, denied, allowed}
 use Rattle.machine.specs.Holds.{WellMarked}
@@ -23,7 +24,7 @@ use Rattle.handler.specs.Kernel.{Result, handle}
 use Rattle.handler.specs.Translate.{translate}
 use Rattle.handler.specs.Claim.{outcomeOf, rowOf, Handled}
 use Rattle.handler.proofs.Handler.{handler-run}
-use Rattle.tagging.specs.Consult.{fiveOf, sameWord, matches, ruled, again, faulted, consultIf, consult}
+use Rattle.tagging.specs.Consult.{fiveOf, matches, ruled, again, faulted, consultIf, consult}
 use Rattle.tagging.specs.Claim.{Fits, Ruled}
 use Rattle.tagging.proofs.Ruled.{evaluate-range}
 
@@ -49,16 +50,6 @@ words-all (suc n) (w ∷ ws) e = ap (λ (x : List ℤ). w ∷ x) (words-all n ws
 -- ════════════════════════════════════════════════════════════════════════════════════════════
 -- Matching
 -- ════════════════════════════════════════════════════════════════════════════════════════════
-
-pub same-word : (a b : ℤ) → sameWord a b ≡ true → b ≡ a
-same-word (pos a) (pos b) e = ap pos (sym (eqb-true a b e))
-same-word (pos a) (negsuc b) e = never (cc)
-same-word (negsuc a) (pos b) e = never (cc)
-same-word (negsuc a) (negsuc b) e = ap negsuc (sym (eqb-true a b e))
-
-pub word-same : (a : ℤ) → sameWord a a ≡ true
-word-same (pos a) = eq-eqb a a refl
-word-same (negsuc a) = eq-eqb a a refl
 
 both-true : (a b : Bool) → (a && b) ≡ true → (a ≡ true) × (b ≡ true)
 both-true true b e = (refl, e)

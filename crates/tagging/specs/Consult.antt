@@ -3,7 +3,7 @@ use Prim.Native.Nat.{ℕ, _+_}
 use mathlib.Core.Bool.{Bool, true, false, _&&_}
 use mathlib.Core.List.{List, [], _∷_}
 use lib.IntN.{ℤ, pos, negsuc}
-use lib.Dec.{eqb}
+use Rattle.word.specs.Number.{sameWord}
 use Rattle.label.specs.Word.{lowLabel}
 use Rattle.program.specs.Command.{codeOf}
 use Rattle.machine.specs.Rule.{Key, inputWord, Verdict, denied, allowed, Ruler}
@@ -33,12 +33,6 @@ words code pc input1 input2 input3 = record { code = code; pc = pc; input1 = inp
 
 abbrev pub fiveOf : Key → Five
 fiveOf k = words (pos (codeOf (k .opcode))) (pos (k .pc)) (inputWord (k .input1)) (inputWord (k .input2)) (inputWord (k .input3))
-
-abbrev pub sameWord : ℤ → ℤ → Bool
-sameWord (pos a) (pos b) = eqb a b
-sameWord (pos a) (negsuc b) = false
-sameWord (negsuc a) (pos b) = false
-sameWord (negsuc a) (negsuc b) = eqb a b
 
 -- the first five words of the rule memory match
 unfoldable pub matches : Five → List ℤ → Bool

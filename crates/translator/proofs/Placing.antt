@@ -22,7 +22,7 @@ use Rattle.policy.proofs.Ruled.{rule-few, opcodes-next}
 use Rattle.handler.specs.Kernel.{Instruction, Bnz}
 use Rattle.handler.specs.Space.{kernelWords}
 use Rattle.handler.specs.Translate.{concat, before, slots, dispatch}
-use Rattle.translator.specs.Emit.{ruleCode, bodiesAt, tableCode, putAll, putCode, Emits, firstSlot, firstBody, starts, slotsTo, Ahead}
+use Rattle.translator.specs.Emit.{ruleCode, bodiesAt, tableCode, putAll, putCode, Emits, firstSlot, firstBody, slotsTo, Ahead}
 use Rattle.handler.proofs.Dispatch.{slots-length}
 use Rattle.handler.proofs.Shape.{before-most}
 use Rattle.translator.proofs.Putting.{putCode-append, putCode-late}
@@ -47,6 +47,11 @@ concat-length (suc count) s at =
 -- ════════════════════════════════════════════════════════════════════════════════════════════
 -- Slots by where the bodies start
 -- ════════════════════════════════════════════════════════════════════════════════════════════
+
+-- if the first does at a place
+abbrev starts : (place : ℕ) → List (List Instruction) → List ℕ
+starts place [] = []
+starts place (b ∷ bs) = place ∷ starts (place + length b) bs
 
 starts-at : (place : ℕ) (bodies : List (List Instruction)) (n : ℕ) → n < length bodies
     → getD (starts place bodies) n 0 ≡ place + before bodies n

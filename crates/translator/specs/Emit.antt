@@ -147,11 +147,6 @@ firstSlot = length dispatch
 abbrev pub firstBody : ℕ
 firstBody = firstSlot + length opcodes
 
--- where each of the bodies starts, if the first does at a place
-abbrev pub starts : (place : ℕ) → List (List Instruction) → List ℕ
-starts place [] = []
-starts place (b ∷ bs) = place ∷ starts (place + length b) bs
-
 -- slots from a place on, each of which branches to where the body of its command's rule starts
 unfoldable pub slotsTo : (place : ℕ) → List ℕ → List Opcode → List Instruction
 slotsTo place begun [] = []

@@ -1,8 +1,8 @@
--- A word as a natural number, as an index below a bound, and whether it is 0.
+-- A word as a natural number, as an index below a bound; whether it is 0, and whether two are the same.
 use Prim.Native.Nat.{ℕ, zero, suc}
 use mathlib.Core.Bool.{Bool, true, false}
 use lib.IntN.{ℤ, pos, negsuc}
-use lib.Dec.{ltb}
+use lib.Dec.{ltb, eqb}
 use Rattle.word.specs.declared.number.Natural.{Natural}
 use Rattle.word.specs.declared.number.Natural.the-variants.{Of, Negative}
 use Rattle.word.specs.declared.number.Index.{Index}
@@ -12,6 +12,12 @@ abbrev pub isZero : ℤ → Bool
 isZero (pos zero) = true
 isZero (pos (suc n)) = false
 isZero (negsuc n) = false
+
+abbrev pub sameWord : ℤ → ℤ → Bool
+sameWord (pos a) (pos b) = eqb a b
+sameWord (pos a) (negsuc b) = false
+sameWord (negsuc a) (pos b) = false
+sameWord (negsuc a) (negsuc b) = eqb a b
 
 abbrev pub naturalOf : ℤ → Natural
 naturalOf (pos n) = Of n

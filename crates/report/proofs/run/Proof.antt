@@ -13,7 +13,7 @@ use Rattle.engine.specs.declared.Answer.the-variants.{Refused, Stopped}
 use Rattle.engine.specs.Memory.{output, memory}
 use Rattle.tagged.specs.Tagged.{Left, left, endedBy, tagged}
 use Rattle.report.specs.Lines.{PageWords}
-use Rattle.report.specs.Page.{zeros, lentFor, endFor}
+use Rattle.report.specs.Page.{lentFor, handlerSpace, endFor}
 use Rattle.report.proofs.Pages.{end-pages}
 use Rattle.report.proofs.Paging.{run-written}
 use borrow.Author.Needs.{needs}
@@ -56,7 +56,7 @@ module _ (e : tie.After-execute) where
       let at-empty = e .before .before .before .before .before .before .before .before in
       let at-bytes = at-empty .before .before .before .before in
       e .execute .ensures .0
-      ∙ ap₂ (λ (t : List ℕ) (row : List ℤ). tagged sheet t row (lentFor (cells values labels)) (zeros 304) (start .args .allowance))
+      ∙ ap₂ (λ (t : List ℕ) (row : List ℤ). tagged sheet t row (lentFor (cells values labels)) handlerSpace (start .args .allowance))
       (at-bytes .bytes .ensures)
       (at-empty .empty .ensures)
 

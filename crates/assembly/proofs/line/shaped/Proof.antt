@@ -3,8 +3,6 @@
 use borrow.Author.Needs.{needs}
 use borrow.Author.Tests.{eq-eqb, ne-eqb}
 use native.Mathlib.Omega.{arith}
-use mathlib.Core.Path.{_≡_, sym, _∙_}
-use Rattle.assembly.specs.Scan.{Few}
 use Rattle.assembly.proofs.line.shaped.Statement.{statement}
 use Rattle.assembly.proofs.line.shaped.Tie as tie
 

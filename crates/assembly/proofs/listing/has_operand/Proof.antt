@@ -1,7 +1,7 @@
 -- `assembly::listing::has_operand` meets its contract: the shape of a code is its opcode's.
 -- Assumes nothing.
 use borrow.Author.Needs.{needs}
-use mathlib.Core.Path.{_≡_, sym, _∙_}
+use mathlib.Core.Path.{sym, _∙_}
 use Rattle.program.proofs.Fetching.{shaped, unshaped}
 use Rattle.assembly.proofs.listing.has_operand.Statement.{statement}
 use Rattle.assembly.proofs.listing.has_operand.Tie as tie

@@ -1,7 +1,7 @@
 -- `tagged::consult::holds` meets its contract.
 -- Assumes nothing.
 use mathlib.Core.Path.{ap, _∙_}
-use Rattle.tagging.specs.Consult.{sameWord}
+use Rattle.word.specs.Number.{sameWord}
 use Rattle.tagged.proofs.Seven.{same-test}
 use borrow.Author.Needs.{needs}
 use Rattle.tagged.proofs.consult.holds.Statement.{statement}
