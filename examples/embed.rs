@@ -42,7 +42,7 @@ fn main() -> Result<(), Refusal> {
     // In one call, as the program `page` does it.
     let page = page(&job(&sheet));
     std::io::stdout().write_all(&page).expect("standard output takes the page");
-    // The same lines from a run on the plain engine.
+    // The same lines from a run on the plain engine: a new machine, too, clears every page for all owners.
     let mut machine = Machine::new(&CELLS, 100);
     let report = machine.run_plain(&sheet, 1000)?;
     let mut lines = String::new();

@@ -30,10 +30,13 @@ extern "C" {
 #define LUVRODAN_RULE_MEMORY_WORDS 7     /* code, P, L1, L2, L3, new place label, result label */
 #define LUVRODAN_PROGRAM_WORDS 8192      /* enough for any sheet: two words a command: code, operand or 0 */
 #define LUVRODAN_HANDLER_WORDS 16384     /* enough for any handler: two words a command */
-#define LUVRODAN_PAGE_COUNT 16           /* pages of a run: their numbers are 0 to 15 */
+#define LUVRODAN_PAGE_COUNT 16           /* pages of a run: their numbers are 0 to 15; a clearance word for each */
 #define LUVRODAN_PAGE_LIMIT 33792        /* bytes of the longest page: 1,024 lines, end line included, of at most 33 */
 #define LUVRODAN_SHEET_LIMIT 36864       /* bytes of the longest sheet: 4,096 commands of at most 9 */
 #define LUVRODAN_TEXT_LIMIT 106496       /* bytes of the longest listing: 4,096 lines, newlines included, of at most 26 */
+
+/* The clearance word of a page that is cleared for all owners: 2^32-1. */
+#define LUVRODAN_ALL_OWNERS 4294967295
 
 /* Refusals (luvrodan_result.refusal, luvrodan_written.refusal). */
 enum {
@@ -49,7 +52,8 @@ enum {
     LUVRODAN_REFUSED_FUEL = 9,           /* an allowance over 1,000,000; 0 */
     LUVRODAN_REFUSED_LINE = 10,          /* not a command and its operands; position: the text's line, from 1 */
     LUVRODAN_REFUSED_RANGE = 11,         /* an operand outside its command's range; position: the text's line, from 1 */
-    LUVRODAN_REFUSED_PAGE = 12           /* an OutputTo page over 15; position: the command's offset */
+    LUVRODAN_REFUSED_PAGE = 12,          /* an OutputTo page over 15; position: the command's offset */
+    LUVRODAN_REFUSED_CLEARANCE = 13      /* not 16 clearance words (16), else one outside 0 to 2^32-1 (first such page) */
 };
 
 /* Stops (luvrodan_result.stop, where refusal is 0). */
@@ -63,7 +67,8 @@ enum {
     LUVRODAN_STOP_DENIED = 6,            /* the rule does not allow the command */
     LUVRODAN_STOP_STACK = 7,             /* the stack is full */
     LUVRODAN_STOP_OUTPUT = 8,            /* the output space is full: for an Output or OutputTo, or for the end line */
-    LUVRODAN_STOP_OVERFLOW = 9           /* a sum or difference outside 64 bits; tested after 6, before 7 and 8 */
+    LUVRODAN_STOP_OVERFLOW = 9,          /* a sum or difference outside 64 bits; tested after 6, before 7 and 8 */
+    LUVRODAN_STOP_CLEARANCE = 10         /* a line whose page is not cleared for its label; after 6, before 9, 7 and 8 */
 };
 
 /* Kinds of lines (the words of kinds). */
@@ -93,18 +98,23 @@ typedef struct {
 /*
  * Runs a sheet under the standard rules.
  *
- * values, labels: the cells; Store changes them. program: two words a command. stack: 768 words. numbers,
- * line_labels, kinds, pages: the output space, a number word, a label word, a kind word and a page word for each line;
- * the shortest sets how many lines fit. Output writes to page 0, OutputTo to the page that it names; all pages share
- * the space, and their lines stand in the order in which they were written.
+ * values, labels: the cells; Store changes them. clearances: exactly LUVRODAN_PAGE_COUNT words, page 0's first, each a
+ * set of owners as labels are. program: two words a command. stack: 768 words. numbers, line_labels, kinds, pages: the
+ * output space, a number word, a label word, a kind word and a page word for each line; the shortest sets how many
+ * lines fit. Output writes to page 0, OutputTo to the page that it names; all pages share the space, and their lines
+ * stand in the order in which they were written.
+ *
+ * A line goes out only if every owner of its label is one of its page's clearance. Otherwise the run is stop 10 at that
+ * Output or OutputTo, which drops nothing: no line is left out for a later one. LUVRODAN_ALL_OWNERS lets every line of
+ * a page out.
  *
  * A run that comes to the end of the sheet writes an end line, on page 0, and is stop 0; the line is no step, needs no
- * allowance and asks no rule. Without output space for it the run is stop 8, also where the allowance is spent: its
- * place is the number of commands, and all else is as it was. So the last line is an end line exactly if the run is
- * stop 0.
+ * allowance and asks no rule. Where page 0 is not cleared for its label the run is stop 10, else without output space
+ * for it stop 8, also where the allowance is spent: its place is the number of commands, and all else is as it was. So
+ * the last line is an end line exactly if the run is stop 0.
  *
- * Refusals, in this order: 1, 2, 3, 12 (sheet, at each command from the left), 4, 5 (cells), 8 at 1 or 2 (spaces), 9
- * (allowance). A refused call changes no lent word.
+ * Refusals, in this order: 1, 2, 3, 12 (sheet, at each command from the left), 4, 5 (cells), 13 (clearances: their
+ * number, then each word), 8 at 1 or 2 (spaces), 9 (allowance). A refused call changes no lent word.
  *
  * After an accepted run program holds the sheet's commands from its start; stack the entries, bottom first, with
  * dropped entries above as they were; numbers, line_labels, kinds and pages the lines from their start; values and
@@ -113,6 +123,7 @@ typedef struct {
 luvrodan_result luvrodan_plain(const uint8_t *sheet, size_t sheet_length,
                                int64_t *values, size_t value_count,
                                int64_t *labels, size_t label_count,
+                               const int64_t *clearances, size_t clearance_count,
                                int64_t *program, size_t program_words,
                                int64_t *stack, size_t stack_words,
                                int64_t *numbers, size_t number_count,
@@ -126,11 +137,11 @@ luvrodan_result luvrodan_plain(const uint8_t *sheet, size_t sheet_length,
  *
  * As luvrodan_plain, and further: table: the rules, operator first. rule_memory: exactly seven words, read at the
  * start and written at the end; seven zeros mean empty. A table has no rule for OutputTo, which is under Output's; its
- * rows have its own code, 0c. handler: two words a kernel command (codes as on sheets, 11 Or, 12 Dup, 13 Swap),
- * luvrodan_handler_count of them.
+ * rows have its own code, 0c. An Output or OutputTo that is stop 10 has been ruled on, as its row and the counts show.
+ * handler: two words a kernel command (codes as on sheets, 11 Or, 12 Dup, 13 Swap), luvrodan_handler_count of them.
  *
- * Refusals, in this order: 1, 2, 3, 12 (sheet), 4, 5 (cells), 6 (rules), 7 (rule memory), 8 at 1, 2 or 3 (spaces), 9
- * (allowance). A refused call changes no lent word.
+ * Refusals, in this order: 1, 2, 3, 12 (sheet), 4, 5 (cells), 13 (clearances), 6 (rules), 7 (rule memory), 8 at 1, 2 or
+ * 3 (spaces), 9 (allowance). A refused call changes no lent word.
  *
  * After an accepted run handler holds the table's handler from its start and rule_memory the rule memory; words
  * beyond are as they came.
@@ -138,6 +149,7 @@ luvrodan_result luvrodan_plain(const uint8_t *sheet, size_t sheet_length,
 luvrodan_result luvrodan_tagged(const uint8_t *sheet, size_t sheet_length,
                                 int64_t *values, size_t value_count,
                                 int64_t *labels, size_t label_count,
+                                const int64_t *clearances, size_t clearance_count,
                                 const uint8_t *table, size_t table_length,
                                 int64_t *rule_memory, size_t rule_memory_words,
                                 int64_t *program, size_t program_words,
@@ -163,7 +175,7 @@ typedef struct {
 
 /*
  * The page of a job: what the program `page` prints for these bytes on standard input. Each line begins with the number
- * of the page that it was written to.
+ * of the page that it was written to. Every page is cleared for all owners: what is shown goes by the reader's set.
  */
 luvrodan_page_result luvrodan_page(const uint8_t *job, size_t job_length, uint8_t *page, size_t page_length);
 

@@ -24,6 +24,17 @@ cc -std=c99 -Wall -Wextra -Werror -I include examples/embed.c "$LUVRODAN_ARCHIVE
 "$out/embed" > "$out/c"
 cmp "$out/page" "$out/c"
 
+# the berth with page 1 closed to owner 1's data, and not; the README shows it too
+printf '%s\n' 'page 1 cleared for owner 0' '0 412 00000000' '1 1397 00000001' 'stop 10: line not cleared for its page' \
+    'page 1 cleared for owners 0 and 1' '0 412 00000000' '1 1397 00000001' '1 217 00000003' '0 end 00000000' 'stop 0: the end' \
+    > "$out/closed"
+cargo run --offline --release --quiet -p luvrodan --example closed > "$out/rust"
+cmp "$out/closed" "$out/rust"
+if [[ $(sed -n 's/^    //p' README.md)$'\n' != *$'\n'"$(< "$out/closed")"$'\n'* ]]; then
+    echo "engines.sh: README.md shows something else than the example closed prints" >&2
+    exit 1
+fi
+
 cargo build --offline --release --quiet -p differential --features engine
 differential=${CARGO_TARGET_DIR:-target}/release/differential
 "$differential" engines "$seed" "$count"

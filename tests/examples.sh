@@ -1,6 +1,7 @@
 #!/usr/bin/env bash
 # examples/berth.txt is the sheet that the README shows, examples/job.sh makes the job files of it, and these give the pages that the README
-# shows. Of a text that is refused examples/job.sh writes nothing, and names file and line.
+# shows. examples/berth-closed.txt is the same but for its last page; examples/closed.rs, which runs it, is tested by engines.sh. Of a text
+# that is refused examples/job.sh writes nothing, and names file and line.
 set -Eeuo pipefail
 cd "$(dirname "$0")/.."
 for program in page assemble; do
@@ -20,6 +21,11 @@ berth public 0 '0 412 00000000\n0 end 00000000'
 berth terminal 1 '0 412 00000000\n1 1397 00000001\n0 end 00000000'
 berth master 3 '0 412 00000000\n1 1397 00000001\n0 217 00000003\n0 end 00000000'
 
+# `page` closes no page, and prints all that the sheet writes
+sed '$s/.*/OutputTo 1/' examples/berth.txt | cmp - examples/berth-closed.txt
+bash examples/job.sh examples/berth-closed.txt 3 "${cells[@]}" > "$scratch/closed.job"
+[ "$(target/bin/page < "$scratch/closed.job")" = "$(printf %b '0 412 00000000\n1 1397 00000001\n1 217 00000003\n0 end 00000000')" ]
+
 # the blocks of the README
 sed -n 's/^    //p' README.md > "$scratch/blocks"
 [[ $(< "$scratch/blocks") == *$'\n'"$(< examples/berth.txt)"$'\n'* ]]
@@ -31,4 +37,4 @@ bash examples/job.sh "$scratch/berth.txt" 0 "${cells[@]}" > "$scratch/job" 2> "$
 [ "$status" -eq 1 ]
 [ ! -s "$scratch/job" ]
 [[ $(< "$scratch/said") == *"$scratch/berth.txt, line 8: refused 10,"* ]]
-echo "examples: 3 of 3 jobs and pages"
+echo "examples: 3 of 3 job files, 4 of 4 pages"

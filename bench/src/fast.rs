@@ -1,7 +1,7 @@
 //! The fastest interpreter of the plain machine that was to hand: commands decoded to an enum, a Push fused with what
 //! follows it, packed entries, no index tested twice. It allocates, and lays its memory out only at the end.
 
-use crate::safe::{check_fuel, check_plain, load_sheet, END, FRAME, NUMBER, VALUE};
+use crate::safe::{check_plain, load_sheet, Clearances, END, FRAME, NUMBER, VALUE};
 use model::engine::{Lent, Report};
 use model::machine::{Stop, STACK};
 use model::{Label, Refusal};
@@ -11,8 +11,8 @@ enum Op {
     Add,
     Sub,
     Pop,
-    /// To this page.
-    Output(i64),
+    /// To this page, which is cleared for these owners.
+    Output(u8, u32),
     Push(i64),
     Load,
     Store,
@@ -42,12 +42,11 @@ struct Cell {
     label: u32,
 }
 
-fn single(code: i64, operand: i64) -> Op {
+fn single(code: i64, operand: i64, clearances: &Clearances) -> Op {
     match code {
         1 => Op::Add,
         2 => Op::Sub,
         3 => Op::Pop,
-        4 => Op::Output(0),
         5 => Op::Push(operand),
         6 => Op::Load,
         7 => Op::Store,
@@ -55,12 +54,13 @@ fn single(code: i64, operand: i64) -> Op {
         9 => Op::Bnz(operand),
         10 => Op::Call,
         11 => Op::Ret,
-        _ => Op::Output(operand),
+        // Output, whose operand word is 0, and OutputTo
+        _ => Op::Output(operand as u8, clearances[operand as usize] as u32),
     }
 }
 
 /// The commands of a program, each Push fused with its successor where that cannot stop by its operand alone.
-fn decode(program: &[i64], cells: usize) -> Vec<Op> {
+fn decode(program: &[i64], cells: usize, clearances: &Clearances) -> Vec<Op> {
     let words: Vec<(i64, i64)> = program.chunks_exact(2).map(|pair| (pair[0], pair[1])).collect();
     let op = |index: usize| {
         let (code, operand) = words[index];
@@ -75,7 +75,7 @@ fn decode(program: &[i64], cells: usize) -> Vec<Op> {
             (5, Some((9, distance))) => {
                 Op::PushBnz(operand, if operand != 0 { 1 + distance as i32 } else { 2 })
             }
-            _ => single(code, operand),
+            _ => single(code, operand, clearances),
         }
     };
     (0..words.len()).map(op).collect()
@@ -92,16 +92,16 @@ fn alone(op: Op) -> Op {
     }
 }
 
-pub fn plain(sheet: &[u8], lent: &mut Lent, fuel: u64) -> Result<Report, Refusal> {
-    let count = check_plain(sheet, lent)?;
-    check_fuel(fuel)?;
+pub fn plain(sheet: &[u8], lent: &mut Lent, clearances: &[i64], fuel: u64) -> Result<Report, Refusal> {
+    let (count, clearances) = check_plain(sheet, lent, clearances, fuel)?;
     load_sheet(sheet, &mut lent.program);
-    let ops = decode(&lent.program[..2 * count], lent.values.len());
-    Ok(run(&ops, lent, fuel))
+    let ops = decode(&lent.program[..2 * count], lent.values.len(), clearances);
+    Ok(run(&ops, lent, clearances[0] as u32, fuel))
 }
 
+/// The end line needs page 0's clearance.
 #[inline(never)]
-fn run(ops: &[Op], lent: &mut Lent, fuel: u64) -> Report {
+fn run(ops: &[Op], lent: &mut Lent, end_clearance: u32, fuel: u64) -> Report {
     let mut cells: Vec<Cell> = (lent.values.iter().zip(&lent.labels))
         .map(|(&number, &label)| Cell { number, label: label as u32 })
         .collect();
@@ -156,6 +156,9 @@ fn run(ops: &[Op], lent: &mut Lent, fuel: u64) -> Report {
     let stop = loop {
         if pc as u64 >= count {
             if pc as u64 == count {
+                if label & !end_clearance != 0 {
+                    break Stop::NotCleared;
+                }
                 if lines >= room {
                     break Stop::OutputFull;
                 }
@@ -265,17 +268,21 @@ fn run(ops: &[Op], lent: &mut Lent, fuel: u64) -> Report {
                 depth -= 1;
                 pc += 1;
             }
-            Op::Output(page) => {
+            Op::Output(page, clearance) => {
                 if !value!(0) {
                     break Stop::ValueMissing;
+                }
+                let line_label = entry!(0).label | label;
+                if line_label & !clearance != 0 {
+                    break Stop::NotCleared;
                 }
                 if lines >= room {
                     break Stop::OutputFull;
                 }
                 numbers[lines] = entry!(0).number;
-                line_labels[lines] = (entry!(0).label | label).into();
+                line_labels[lines] = line_label.into();
                 kinds[lines] = NUMBER;
-                pages[lines] = page;
+                pages[lines] = page.into();
                 lines += 1;
                 depth -= 1;
                 pc += 1;

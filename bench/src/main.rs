@@ -6,7 +6,7 @@
 use bench::workloads::{all, berth, idle, texts, walk, Workload};
 use bench::{fast, safe, tags, text};
 use differential::text::{Texts, Written};
-use model::engine::{Lent, Report};
+use model::engine::{Lent, Report, CLEARED_FOR_ALL};
 use model::rules::STANDARD;
 use model::sheet;
 use model::text::normal;
@@ -37,8 +37,8 @@ fn now() -> f64 {
     time.seconds as f64 * 1e9 + time.nanoseconds as f64
 }
 
-/// Runs a sheet on lent memory; the tag engines find the handler's words there.
-type Runner<'a> = Box<dyn Fn(&[u8], &mut Lent, u64) -> [u64; 3] + 'a>;
+/// Runs a sheet on lent memory, under clearances, with an allowance; the tag engines find the handler's words there.
+type Runner<'a> = Box<dyn Fn(&[u8], &mut Lent, &[i64], u64) -> [u64; 3] + 'a>;
 
 struct Contestant<'a> {
     name: &'static str,
@@ -70,11 +70,15 @@ mod engine {
         vec![
             Contestant {
                 name: PLAIN,
-                run: Box::new(|sheet, lent, fuel| counts(Engine.plain(sheet, lent, fuel))),
+                run: Box::new(|sheet, lent, clearances, fuel| {
+                    counts(Engine.plain(sheet, lent, clearances, fuel))
+                }),
             },
             Contestant {
                 name: TAGGED,
-                run: Box::new(|sheet, lent, fuel| counts(Engine.tagged(sheet, &STANDARD, lent, fuel))),
+                run: Box::new(|sheet, lent, clearances, fuel| {
+                    counts(Engine.tagged(sheet, &STANDARD, lent, clearances, fuel))
+                }),
             },
         ]
     }
@@ -87,7 +91,7 @@ mod engine {
     pub fn handler() -> Vec<i64> {
         let mut lent = Lent::roomy(&[], 0);
         lent.handler.truncate(2 * Engine.handler_count(&STANDARD) as usize);
-        counts(Engine.tagged(&[], &STANDARD, &mut lent, 0));
+        counts(Engine.tagged(&[], &STANDARD, &mut lent, &CLEARED_FOR_ALL, 0));
         lent.handler
     }
 }
@@ -124,16 +128,21 @@ fn contestants<'a>(handler: &'a [i64]) -> Vec<Contestant<'a>> {
     let mut list = engine::contestants();
     list.push(Contestant {
         name: SAFE,
-        run: Box::new(|sheet, lent, fuel| counts(safe::plain(sheet, lent, fuel).expect(ACCEPTED))),
+        run: Box::new(|sheet, lent, clearances, fuel| {
+            counts(safe::plain(sheet, lent, clearances, fuel).expect(ACCEPTED))
+        }),
     });
     list.push(Contestant {
         name: FAST,
-        run: Box::new(|sheet, lent, fuel| counts(fast::plain(sheet, lent, fuel).expect(ACCEPTED))),
+        run: Box::new(|sheet, lent, clearances, fuel| {
+            counts(fast::plain(sheet, lent, clearances, fuel).expect(ACCEPTED))
+        }),
     });
     list.push(Contestant {
         name: TAGS,
-        run: Box::new(|sheet, lent, fuel| {
-            counts(tags::tagged(sheet, &STANDARD, handler.len() / 2, lent, fuel).expect(ACCEPTED))
+        run: Box::new(|sheet, lent, clearances, fuel| {
+            let report = tags::tagged(sheet, &STANDARD, handler.len() / 2, lent, clearances, fuel);
+            counts(report.expect(ACCEPTED))
         }),
     });
     list
@@ -145,7 +154,7 @@ fn hold_together(contestants: &[Contestant], workload: &Workload, handler: &[i64
     let (mut first, mut first_tags) = (None, None);
     for contestant in contestants {
         let mut lent = workload.lent(handler);
-        let counts = (contestant.run)(&workload.sheet, &mut lent, FUEL);
+        let counts = (contestant.run)(&workload.sheet, &mut lent, &workload.clearances, FUEL);
         let rule_memory = std::mem::take(&mut lent.rule_memory);
         let words = (counts[0], lent);
         let agree = *first.get_or_insert_with(|| words.clone()) == words;
@@ -174,7 +183,12 @@ fn measure(contestants: &[Contestant], workload: &Workload, handler: &[i64], fue
         for (contestant, measured) in contestants.iter().zip(&mut measured) {
             let mut lent = workload.lent(handler);
             let began = now();
-            let counts = (contestant.run)(black_box(&workload.sheet), &mut lent, fuel);
+            let counts = (contestant.run)(
+                black_box(&workload.sheet),
+                &mut lent,
+                black_box(&workload.clearances),
+                fuel,
+            );
             let time = (now() - began) / fuel as f64;
             black_box(&lent);
             assert_eq!(counts[0], fuel, "{} {}: the allowance ends the run", contestant.name, workload.name);
@@ -256,7 +270,8 @@ fn print_ratios(tables: &[(&str, Vec<Measured>)]) {
     }
 }
 
-/// Nanoseconds of the best of several runs of a sheet that is over soon, repeated within each run.
+/// Nanoseconds of the best of several runs of a sheet that is over soon, repeated within each run. Every page is cleared
+/// for all.
 fn short_time(contestant: &Contestant, sheet: &[u8], lent: &Lent, fuel: u64) -> f64 {
     const REPEATS: usize = 200;
     let mut lent = lent.clone();
@@ -264,7 +279,7 @@ fn short_time(contestant: &Contestant, sheet: &[u8], lent: &Lent, fuel: u64) -> 
     for _ in 0..ROUNDS {
         let began = now();
         for _ in 0..REPEATS {
-            black_box((contestant.run)(black_box(sheet), &mut lent, fuel));
+            black_box((contestant.run)(black_box(sheet), &mut lent, black_box(&CLEARED_FOR_ALL), fuel));
         }
         best = best.min((now() - began) / REPEATS as f64);
     }

@@ -13,6 +13,9 @@ pub const FRAME: i64 = 1;
 pub const NUMBER: i64 = 0;
 pub const END: i64 = 1;
 
+/// The pages' clearances, a word each.
+pub type Clearances = [i64; PAGES as usize];
+
 /// Checks a sheet: how many commands it has.
 pub fn check_sheet(sheet: &[u8]) -> Result<usize, Refusal> {
     let (mut offset, mut count) = (0, 0);
@@ -52,6 +55,16 @@ pub fn check_cells(values: &[i64], labels: &[i64]) -> Result<(), Refusal> {
     }
 }
 
+pub fn check_clearances(words: &[i64]) -> Result<&Clearances, Refusal> {
+    let Ok(clearances) = <&Clearances>::try_from(words) else {
+        return Err(Refusal::new(13, PAGES.into()));
+    };
+    match clearances.iter().position(|&word| Label::try_from(word).is_err()) {
+        Some(page) => Err(Refusal::new(13, page)),
+        None => Ok(clearances),
+    }
+}
+
 /// Writes the commands of a sheet that passed its check.
 pub fn load_sheet(sheet: &[u8], program: &mut [i64]) {
     let mut offset = 0;
@@ -70,12 +83,19 @@ pub fn load_sheet(sheet: &[u8], program: &mut [i64]) {
     }
 }
 
-/// Refusals 8 at 1 and 2, and what the sheet's check counts.
-pub fn check_plain(sheet: &[u8], lent: &Lent) -> Result<usize, Refusal> {
+/// All checks of the plain machine: how many commands the sheet has, and the clearances.
+pub fn check_plain<'a>(
+    sheet: &[u8],
+    lent: &Lent,
+    clearances: &'a [i64],
+    fuel: u64,
+) -> Result<(usize, &'a Clearances), Refusal> {
     let count = check_sheet(sheet)?;
     check_cells(&lent.values, &lent.labels)?;
+    let clearances = check_clearances(clearances)?;
     check_spaces(count, lent)?;
-    Ok(count)
+    check_fuel(fuel)?;
+    Ok((count, clearances))
 }
 
 pub fn check_spaces(count: usize, lent: &Lent) -> Result<(), Refusal> {
@@ -95,16 +115,20 @@ pub fn check_fuel(fuel: u64) -> Result<(), Refusal> {
     Ok(())
 }
 
-pub fn plain(sheet: &[u8], lent: &mut Lent, fuel: u64) -> Result<Report, Refusal> {
-    let count = check_plain(sheet, lent)?;
-    check_fuel(fuel)?;
+pub fn plain(sheet: &[u8], lent: &mut Lent, clearances: &[i64], fuel: u64) -> Result<Report, Refusal> {
+    let (count, clearances) = check_plain(sheet, lent, clearances, fuel)?;
     load_sheet(sheet, &mut lent.program);
-    Ok(run(count, lent, fuel))
+    Ok(run(count, lent, clearances, fuel))
 }
 
 /// Whether the entry `below` the top is of this kind.
 fn is(kind: i64, stack: &[i64], depth: usize, below: usize) -> bool {
     depth > below && stack[3 * (depth - 1 - below)] == kind
+}
+
+/// Whether each owner of a label is one of a set, both as words.
+pub fn flows(label: i64, set: i64) -> bool {
+    label & !set == 0
 }
 
 fn put(stack: &mut [i64], index: usize, kind: i64, number: i64, label: i64) {
@@ -113,12 +137,15 @@ fn put(stack: &mut [i64], index: usize, kind: i64, number: i64, label: i64) {
 
 // Not inlined, here and in the other interpreters: a loop's speed would depend, up to threefold, on the code around it.
 #[inline(never)]
-fn run(count: usize, lent: &mut Lent, fuel: u64) -> Report {
+fn run(count: usize, lent: &mut Lent, clearances: &Clearances, fuel: u64) -> Report {
     let room = lent.room();
     let Lent { values, labels, program, stack, numbers, line_labels, kinds, pages, .. } = lent;
     let (mut pc, mut label, mut depth, mut lines, mut steps) = (0i64, 0i64, 0usize, 0usize, 0u64);
     let stop = loop {
         if pc == count as i64 {
+            if !flows(label, clearances[0]) {
+                break Stop::NotCleared;
+            }
             if lines >= room {
                 break Stop::OutputFull;
             }
@@ -192,7 +219,7 @@ fn run(count: usize, lent: &mut Lent, fuel: u64) -> Report {
                     break Stop::AddressOutside;
                 }
                 let from = stack[top + 2] | label;
-                if from & !labels[address as usize] != 0 {
+                if !flows(from, labels[address as usize]) {
                     break Stop::NotAllowed;
                 }
                 values[address as usize] = stack[under + 1];
@@ -245,10 +272,14 @@ fn run(count: usize, lent: &mut Lent, fuel: u64) -> Report {
                 if !is(VALUE, stack, depth, 0) {
                     break Stop::ValueMissing;
                 }
+                let top = 3 * (depth - 1);
+                // The union stands here and below: with a name for it the walk through cells takes three times as long.
+                if !flows(stack[top + 2] | label, clearances[operand as usize]) {
+                    break Stop::NotCleared;
+                }
                 if lines >= room {
                     break Stop::OutputFull;
                 }
-                let top = 3 * (depth - 1);
                 numbers[lines] = stack[top + 1];
                 line_labels[lines] = stack[top + 2] | label;
                 kinds[lines] = NUMBER;

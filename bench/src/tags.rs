@@ -2,7 +2,8 @@
 //! run by a small kernel at each fault.
 
 use crate::safe::{
-    check_cells, check_fuel, check_sheet, check_spaces, load_sheet, END, FRAME, NUMBER, VALUE,
+    check_cells, check_clearances, check_fuel, check_sheet, check_spaces, flows, load_sheet, Clearances, END,
+    FRAME, NUMBER, VALUE,
 };
 use model::engine::{Lent, Report};
 use model::machine::{Stop, STACK};
@@ -15,10 +16,12 @@ pub fn tagged(
     table: &[u8],
     count: usize,
     lent: &mut Lent,
+    clearances: &[i64],
     fuel: u64,
 ) -> Result<Report, Refusal> {
     let commands = check_sheet(sheet)?;
     check_cells(&lent.values, &lent.labels)?;
+    let clearances = check_clearances(clearances)?;
     if !Table::parse(table)?.accepts(&lent.rule_memory) {
         return Err(Refusal::new(7, 0));
     }
@@ -28,7 +31,7 @@ pub fn tagged(
     }
     check_fuel(fuel)?;
     load_sheet(sheet, &mut lent.program);
-    Ok(run(commands, lent, fuel))
+    Ok(run(commands, lent, clearances, fuel))
 }
 
 /// The kernel: whether it returned, and its steps. Its sums wrap.
@@ -117,7 +120,7 @@ fn needs(code: i64, stack: &[i64], depth: usize, labels: &[i64]) -> Result<[i64;
 }
 
 #[inline(never)]
-fn run(count: usize, lent: &mut Lent, fuel: u64) -> Report {
+fn run(count: usize, lent: &mut Lent, clearances: &Clearances, fuel: u64) -> Report {
     let room = lent.room();
     let Lent { values, labels, rule_memory, program, stack, handler, numbers, line_labels, kinds, pages } =
         lent;
@@ -126,6 +129,9 @@ fn run(count: usize, lent: &mut Lent, fuel: u64) -> Report {
     let mut memory: [i64; 7] = rule_memory[..].try_into().expect("the rule memory was accepted");
     let stop = loop {
         if pc == count as i64 {
+            if !flows(label, clearances[0]) {
+                break Stop::NotCleared;
+            }
             if lines >= room {
                 break Stop::OutputFull;
             }
@@ -179,6 +185,9 @@ fn run(count: usize, lent: &mut Lent, fuel: u64) -> Report {
             3 => depth -= 1,
             // an Output's operand word is 0
             4 | 12 => {
+                if !flows(result, clearances[operand as usize]) {
+                    break Stop::NotCleared;
+                }
                 if lines >= room {
                     break Stop::OutputFull;
                 }

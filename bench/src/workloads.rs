@@ -1,14 +1,16 @@
 //! The sheets that are measured. Each goes round until its allowance is spent, so that all engines take the same steps.
 
+use crate::safe::Clearances;
 use differential::random::Random;
-use model::engine::Lent;
-use model::sheet::{encode, Command, Command::*, COMMANDS};
+use model::engine::{Lent, CLEARED_FOR_ALL};
+use model::sheet::{encode, Command, Command::*, COMMANDS, PAGES};
 use model::Atom;
 
 pub struct Workload {
     pub name: &'static str,
     pub sheet: Vec<u8>,
     pub cells: Vec<Atom>,
+    pub clearances: Clearances,
     /// Lines that fit.
     pub lines: usize,
     /// The same work for one round of the loop in Lua, and how many steps of the sheet that is.
@@ -45,6 +47,7 @@ fn arithmetic() -> Workload {
         name: "arithmetic",
         sheet: encode(&sheet),
         cells: vec![],
+        clearances: CLEARED_FOR_ALL,
         lines: 0,
         lua: Some(Lua {
             setup: "local a = 0",
@@ -67,6 +70,7 @@ pub fn walk(count: usize) -> Workload {
         name: "cell walk",
         sheet: encode(&sheet.concat()),
         cells: (0..count).map(|cell| hidden(if cell == 0 { 1 } else { next(cell) as i64 })).collect(),
+        clearances: CLEARED_FOR_ALL,
         lines: 0,
         lua: Some(Lua {
             setup: "local c = {[0] = 1}; for i = 1, 1023 do c[i] = 1 + (i + 6) % 1023 end",
@@ -82,6 +86,7 @@ fn calls() -> Workload {
         name: "calls",
         sheet: encode(&sheet),
         cells: vec![],
+        clearances: CLEARED_FOR_ALL,
         lines: 0,
         lua: Some(Lua { setup: "local function f(x) end", round: "f(1)", steps: 7 }),
     }
@@ -95,6 +100,7 @@ fn hidden_branches() -> Workload {
         name: "hidden branches",
         sheet: encode(&[&caller[..], &callee].concat()),
         cells: vec![hidden(1), hidden(0)],
+        clearances: CLEARED_FOR_ALL,
         lines: 0,
         lua: Some(Lua {
             setup: "local c = {1, 0}; local function f(x) if x == 0 then local y = 5 end end",
@@ -109,6 +115,7 @@ fn lines() -> Workload {
         name: "lines",
         sheet: encode(&[Push(7), Output, Push(1), Bnz(-3)]),
         cells: vec![],
+        clearances: CLEARED_FOR_ALL,
         lines: 300_000,
         lua: Some(Lua { setup: "local out = {}", round: "out[#out + 1] = 7", steps: 4 }),
     }
@@ -126,12 +133,39 @@ fn pages() -> Workload {
         name: "pages",
         sheet: encode(&sheet.concat()),
         cells: vec![],
+        clearances: CLEARED_FOR_ALL,
         lines: 300_000,
         lua: Some(Lua {
             setup: "local out, page = {}, {}",
             round: "out[#out + 1] = 7; page[#page + 1] = 0; out[#out + 1] = 7; page[#page + 1] = 0; \
                     out[#out + 1] = 7; page[#page + 1] = 1; out[#out + 1] = 7; page[#page + 1] = 15",
             steps: 16,
+        }),
+    }
+}
+
+/// Cells of several owners, each printed on a page that is cleared for its owners and no others. On the pages above every
+/// label is empty and every clearance is full, so that either alone would tell that a line may go out.
+fn cleared_pages() -> Workload {
+    let labels = [0, 1, 3, 1 << 31];
+    let pages = [0, 1, 7, 15];
+    let mut clearances = [0; PAGES as usize];
+    for (page, label) in pages.into_iter().zip(labels) {
+        clearances[usize::from(page)] = label.into();
+    }
+    let print = |cell: usize| [Push(cell as i64), Load, OutputTo(pages[cell])];
+    let sheet = [&[0, 1, 2, 3].map(print).concat()[..], &[Push(1), Bnz(-13)]];
+    Workload {
+        name: "cleared pages",
+        sheet: encode(&sheet.concat()),
+        cells: labels.into_iter().map(|label| Atom { number: 7, label }).collect(),
+        clearances,
+        lines: 300_000,
+        lua: Some(Lua {
+            setup: "local c, out, page = {7, 7, 7, 7}, {}, {}",
+            round: "out[#out + 1] = c[1]; page[#page + 1] = 0; out[#out + 1] = c[2]; page[#page + 1] = 1; \
+                    out[#out + 1] = c[3]; page[#page + 1] = 7; out[#out + 1] = c[4]; page[#page + 1] = 15",
+            steps: 14,
         }),
     }
 }
@@ -157,11 +191,18 @@ fn mix() -> Workload {
         sheet.extend(snippet);
     }
     sheet.extend([Push(0), Jump]);
-    Workload { name: "random mix", sheet: encode(&sheet), cells, lines: 0, lua: None }
+    Workload {
+        name: "random mix",
+        sheet: encode(&sheet),
+        cells,
+        clearances: CLEARED_FOR_ALL,
+        lines: 0,
+        lua: None,
+    }
 }
 
 pub fn all() -> Vec<Workload> {
-    vec![arithmetic(), walk(1024), calls(), hidden_branches(), lines(), pages(), mix()]
+    vec![arithmetic(), walk(1024), calls(), hidden_branches(), lines(), pages(), cleared_pages(), mix()]
 }
 
 /// The berth of the README: a run of 18 steps that comes to its end, with room for its three lines and the end line.
@@ -175,6 +216,7 @@ pub fn berth() -> Workload {
         name: "berth",
         sheet: encode(&sheet.concat()),
         cells: vec![Atom { number: 412, label: 0 }, hidden(-985), Atom { number: 1180, label: 2 }],
+        clearances: CLEARED_FOR_ALL,
         lines: 4,
         lua: None,
     }

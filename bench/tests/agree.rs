@@ -7,11 +7,12 @@ use differential::backend::{Answer, Backend, Itself};
 use differential::compare::compare_case;
 use differential::tally::Tally;
 use differential::text::{edge_cases, tally, text_case, Texts};
-use model::engine::{Lent, ALLOWANCE};
+use model::engine::{Lent, ALLOWANCE, CLEARED_FOR_ALL};
 use model::machine::Stop;
 use model::rules::{Table, STANDARD};
 use model::sample::Sample;
-use model::sheet::{encode, Command::*};
+use model::sheet::{encode, Command::*, PAGES};
+use model::{Atom, Label};
 
 /// One of the two interpreters with the tag engine in Rust.
 struct InRust {
@@ -19,22 +20,22 @@ struct InRust {
 }
 
 impl Backend for InRust {
-    fn plain(&self, sheet: &[u8], lent: &mut Lent, fuel: u64) -> Answer {
+    fn plain(&self, sheet: &[u8], lent: &mut Lent, clearances: &[i64], fuel: u64) -> Answer {
         if self.fast {
-            fast::plain(sheet, lent, fuel).into()
+            fast::plain(sheet, lent, clearances, fuel).into()
         } else {
-            safe::plain(sheet, lent, fuel).into()
+            safe::plain(sheet, lent, clearances, fuel).into()
         }
     }
 
-    fn tagged(&self, sheet: &[u8], table: &[u8], lent: &mut Lent, fuel: u64) -> Answer {
+    fn tagged(&self, sheet: &[u8], table: &[u8], lent: &mut Lent, clearances: &[i64], fuel: u64) -> Answer {
         let sample = Table::parse(table).map_or(Sample::default(), |table| Sample::of(&table));
         let handler = sample.handler();
         let before = lent.handler.clone();
         if let Some(space) = lent.handler.get_mut(..2 * handler.count) {
             space.copy_from_slice(handler.words);
         }
-        let answer = tags::tagged(sheet, table, handler.count, lent, fuel);
+        let answer = tags::tagged(sheet, table, handler.count, lent, clearances, fuel);
         if answer.is_err() {
             lent.handler = before;
         }
@@ -63,18 +64,21 @@ fn interpreters_agree_with_the_model() {
     }
 }
 
-/// Holds the interpreters to the model on one start: answers and all lent words.
-fn hold(sheet: &[u8], lent: &Lent, fuel: u64, what: &str) {
+/// Holds the interpreters to the model on one start, answers and all lent words: the answers of the plain and the tagged.
+fn hold(sheet: &[u8], lent: &Lent, clearances: &[i64], fuel: u64, what: &str) -> [Answer; 2] {
     let run = |backend: &dyn Backend| {
         let (mut plain, mut tagged) = (lent.clone(), lent.clone());
-        let answers =
-            [backend.plain(sheet, &mut plain, fuel), backend.tagged(sheet, &STANDARD, &mut tagged, fuel)];
+        let answers = [
+            backend.plain(sheet, &mut plain, clearances, fuel),
+            backend.tagged(sheet, &STANDARD, &mut tagged, clearances, fuel),
+        ];
         (answers, plain, tagged)
     };
     let model = run(&Itself);
     for fast in [false, true] {
         assert!(run(&InRust { fast }) == model, "{what}, fast: {fast}");
     }
+    model.0
 }
 
 /// Every page there is and there is not; and each run of the output space in turn as the shortest.
@@ -84,17 +88,80 @@ fn pages_agree_with_the_model() {
     lent.pages.fill(-7);
     for page in 0..=u8::MAX {
         let sheet = [encode(&[Push(7), Push(8), Output]), vec![12, page]].concat();
-        hold(&sheet, &lent, ALLOWANCE, &format!("page {page}"));
-        hold(&sheet[..sheet.len() - 1], &lent, ALLOWANCE, "cut");
+        let hold = |sheet: &[u8], lent: &Lent, what: &str| {
+            hold(sheet, lent, &CLEARED_FOR_ALL, ALLOWANCE, &format!("page {page}, {what}"))
+        };
+        hold(&sheet, &lent, "whole");
+        hold(&sheet[..sheet.len() - 1], &lent, "cut");
         for room in 0..3 {
             for run in 0..4 {
                 let mut lent = lent.clone();
                 let Lent { numbers, line_labels, kinds, pages, .. } = &mut lent;
                 [numbers, line_labels, kinds, pages][run].truncate(room);
-                hold(&sheet, &lent, ALLOWANCE, &format!("page {page}, run {run} of {room}"));
+                hold(&sheet, &lent, &format!("run {run} of {room}"));
             }
         }
     }
+}
+
+/// Lines on each page, and the end line, of labels inside the page's clearance and not, by their number or by a branch
+/// before them; with and without room for them. The allowance is spent at the end.
+#[test]
+fn clearances_agree_with_the_model() {
+    const SETS: [Label; 5] = [0, 1, 2, 3, Label::MAX];
+    for page in 0..PAGES {
+        for (label, set) in SETS.into_iter().flat_map(|label| SETS.map(|set| (label, set))) {
+            let mut clearances = CLEARED_FOR_ALL;
+            clearances[usize::from(page)] = set.into();
+            for (rest, its_page, lines) in [
+                (&[OutputTo(page)][..], page, 2),
+                (&[Output], 0, 2),
+                (&[Bnz(1), Push(7), OutputTo(page)], page, 2),
+                (&[Bnz(1)], 0, 1),
+            ] {
+                let commands = [&[Push(0), Load], rest].concat();
+                for room in 0..3 {
+                    let lent = Lent::roomy(&[Atom { number: 7, label }], room);
+                    let what = format!("{rest:?} of {label:x}, page {page} cleared for {set:x}, room {room}");
+                    let answers = hold(&encode(&commands), &lent, &clearances, commands.len() as u64, &what);
+                    let stop = if its_page == page && label & !set != 0 {
+                        Stop::NotCleared
+                    } else if room < lines {
+                        Stop::OutputFull
+                    } else {
+                        Stop::End
+                    };
+                    assert_eq!(answers.map(|answer| answer.words[2]), [stop as u64; 2], "{what}");
+                }
+            }
+        }
+    }
+}
+
+/// Words that are no clearances are refused, in their turn: after the cells' labels, before the rule memory and the
+/// working space.
+#[test]
+fn clearance_words_agree_with_the_model() {
+    let refused = |lent: &Lent, clearances: &[i64]| {
+        let answers = hold(&encode(&[Add]), lent, clearances, 0, "clearances").map(|answer| answer.words);
+        assert_eq!(answers[0], answers[1]);
+        (answers[0][0], answers[0][1])
+    };
+    let mut lent = Lent::roomy(&[Atom { number: 7, label: 1 }], 1);
+    lent.program.clear();
+    lent.rule_memory.fill(-1);
+    for page in 0..usize::from(PAGES) {
+        for word in [-1, i64::from(Label::MAX) + 1, i64::MIN, i64::MAX] {
+            let mut clearances = CLEARED_FOR_ALL;
+            clearances[page..].fill(word);
+            assert_eq!(refused(&lent, &clearances), (13, page as u64));
+        }
+    }
+    for count in [0, 1, 15, 17, 32] {
+        assert_eq!(refused(&lent, &vec![-1; count]), (13, 16));
+    }
+    lent.labels[0] = -1;
+    assert_eq!(refused(&lent, &[]), (5, 0));
 }
 
 #[test]
@@ -102,7 +169,7 @@ fn workloads_agree_with_the_model() {
     let table = Table::parse(&STANDARD).unwrap();
     for workload in all().into_iter().chain([berth()]) {
         let lent = workload.lent(Sample::of(&table).handler().words);
-        hold(&workload.sheet, &lent, 100_003, workload.name);
+        hold(&workload.sheet, &lent, &workload.clearances, 100_003, workload.name);
     }
 }
 
@@ -118,11 +185,12 @@ fn texts_agree_with_the_model() {
     }
 }
 
-/// A sum that grows would stop them.
+/// A sum that grows would stop them, and so would a page that is not cleared for its lines.
 #[test]
 fn workloads_spend_their_allowance() {
     for workload in all() {
-        let report = safe::plain(&workload.sheet, &mut workload.lent(&[]), ALLOWANCE).unwrap();
+        let mut lent = workload.lent(&[]);
+        let report = safe::plain(&workload.sheet, &mut lent, &workload.clearances, ALLOWANCE).unwrap();
         assert_eq!((report.stop, report.steps), (Stop::AllowanceSpent, ALLOWANCE), "{}", workload.name);
     }
 }

@@ -42,6 +42,10 @@ pub enum Refusal {
     LabelOutside {
         cell: u64,
     },
+    /// A clearance word outside 0 to 2^32−1, first at this page, or another number of them than sixteen (16).
+    Clearance {
+        page: u64,
+    },
     /// Bytes that are no rule table: the first faulty one, or 512 where there are more.
     RuleTable {
         offset: u64,
@@ -65,8 +69,8 @@ pub enum Refusal {
     },
 }
 
-/// How an accepted run ended. `End` is the sheet's end with its line written; without room for that line it is
-/// `OutputFull`.
+/// How an accepted run ended. `End` is the sheet's end with its line written; where page 0 is not cleared for that line
+/// it is `NotCleared`, else without room for it `OutputFull`.
 #[derive(Clone, Copy, Debug, PartialEq, Eq)]
 pub enum Stop {
     End = 0,
@@ -80,6 +84,8 @@ pub enum Stop {
     OutputFull = 8,
     /// A sum or difference outside 64 bits; tested after `NotAllowed`, before the two that are full.
     Overflow = 9,
+    /// A line whose label is not inside its page's clearance; tested after `NotAllowed`, before `OutputFull`.
+    NotCleared = 10,
 }
 
 /// What an accepted run came to. Faults and kernel steps are 0 from the plain engine.
@@ -113,6 +119,7 @@ impl Refusal {
             Refusal::BadLine { .. } => 10,
             Refusal::OperandOutside { .. } => 11,
             Refusal::Page { .. } => 12,
+            Refusal::Clearance { .. } => 13,
         }
     }
 
@@ -126,6 +133,7 @@ impl Refusal {
             | Refusal::RuleTable { offset } => offset,
             Refusal::CellCount { place } => place,
             Refusal::LabelOutside { cell } => cell,
+            Refusal::Clearance { page } => page,
             Refusal::ShortSpace(space) => space as u64,
             Refusal::RuleMemory | Refusal::Allowance => 0,
             Refusal::TooManyLines { line } | Refusal::BadLine { line } | Refusal::OperandOutside { line } => {
@@ -173,6 +181,7 @@ impl fmt::Display for Stop {
             Stop::StackFull => "stack full",
             Stop::OutputFull => "output space full",
             Stop::Overflow => "result outside 64 bits",
+            Stop::NotCleared => "line not cleared for its page",
         })
     }
 }
@@ -225,6 +234,7 @@ fn refusal(number: u64, place: u64) -> Refusal {
         10 => Refusal::BadLine { line: place },
         11 => Refusal::OperandOutside { line: place },
         12 => Refusal::Page { offset: place },
+        13 => Refusal::Clearance { page: place },
         _ => panic!("refusal {number} is not of this interface"),
     }
 }
@@ -241,6 +251,7 @@ fn report(raw: RawResult) -> Report {
         7 => Stop::StackFull,
         8 => Stop::OutputFull,
         9 => Stop::Overflow,
+        10 => Stop::NotCleared,
         number => panic!("stop {number} is not of this interface"),
     };
     Report {

@@ -1,15 +1,18 @@
 //! The labelled sheet machine, for Rust programs: the proved engines behind safe functions. docs/MANUAL.md describes it.
 //!
 //! [`Machine`] owns all memory and is the easy way; [`plain`] and [`tagged`] run on memory that the caller lends;
-//! [`page`] makes a page of a job. A start that breaks a limit is a [`Refusal`] and changes nothing; any other run
-//! ends with a [`Stop`]. [`assemble`] makes a sheet of a text, [`list`] a text of a sheet.
+//! [`page`] makes a page of a job. [`Clearances`] say which owners' data each page may show. A start that breaks a limit
+//! is a [`Refusal`] and changes nothing; any other run ends with a [`Stop`]. [`assemble`] makes a sheet of a text,
+//! [`list`] a text of a sheet.
 
 mod answer;
+mod clearances;
 mod machine;
 pub mod sys;
 mod text;
 
 pub use answer::{Refusal, Report, Space, Stop};
+pub use clearances::Clearances;
 pub use machine::{Atom, Entry, Kind, Line, Machine};
 pub use text::{assemble, assemble_into, assemble_raw, list, list_into, list_raw, SHEET_LIMIT, TEXT_LIMIT};
 
@@ -67,17 +70,23 @@ pub struct Tags<'a> {
 }
 
 /// Runs a sheet under the standard rules.
-pub fn plain(sheet: &[u8], lent: Lent, fuel: u64) -> Result<Report, Refusal> {
-    plain_raw(sheet, lent, fuel).named()
+pub fn plain(sheet: &[u8], lent: Lent, clearances: &Clearances, fuel: u64) -> Result<Report, Refusal> {
+    plain_raw(sheet, lent, clearances.words(), fuel).named()
 }
 
 /// Runs a sheet on the tag engine, under the rules of a table.
-pub fn tagged(sheet: &[u8], lent: Lent, tags: Tags, fuel: u64) -> Result<Report, Refusal> {
-    tagged_raw(sheet, lent, tags, fuel).named()
+pub fn tagged(
+    sheet: &[u8],
+    lent: Lent,
+    tags: Tags,
+    clearances: &Clearances,
+    fuel: u64,
+) -> Result<Report, Refusal> {
+    tagged_raw(sheet, lent, tags, clearances.words(), fuel).named()
 }
 
-/// [`plain`] with the answer's words as the C interface gives them.
-pub fn plain_raw(sheet: &[u8], lent: Lent, fuel: u64) -> sys::RawResult {
+/// [`plain`] with the clearances' words as the C interface takes them, and the answer's as it gives them.
+pub fn plain_raw(sheet: &[u8], lent: Lent, clearances: &[i64], fuel: u64) -> sys::RawResult {
     // SAFETY: each pointer and length is of one slice; the exclusive ones cannot overlap.
     unsafe {
         sys::luvrodan_plain(
@@ -87,6 +96,8 @@ pub fn plain_raw(sheet: &[u8], lent: Lent, fuel: u64) -> sys::RawResult {
             lent.values.len(),
             lent.labels.as_mut_ptr(),
             lent.labels.len(),
+            clearances.as_ptr(),
+            clearances.len(),
             lent.program.as_mut_ptr(),
             lent.program.len(),
             lent.stack.as_mut_ptr(),
@@ -104,8 +115,8 @@ pub fn plain_raw(sheet: &[u8], lent: Lent, fuel: u64) -> sys::RawResult {
     }
 }
 
-/// [`tagged`] with the answer's words as the C interface gives them.
-pub fn tagged_raw(sheet: &[u8], lent: Lent, tags: Tags, fuel: u64) -> sys::RawResult {
+/// [`tagged`] with the clearances' words as the C interface takes them, and the answer's as it gives them.
+pub fn tagged_raw(sheet: &[u8], lent: Lent, tags: Tags, clearances: &[i64], fuel: u64) -> sys::RawResult {
     // SAFETY: as in `plain_raw`.
     unsafe {
         sys::luvrodan_tagged(
@@ -115,6 +126,8 @@ pub fn tagged_raw(sheet: &[u8], lent: Lent, tags: Tags, fuel: u64) -> sys::RawRe
             lent.values.len(),
             lent.labels.as_mut_ptr(),
             lent.labels.len(),
+            clearances.as_ptr(),
+            clearances.len(),
             tags.table.as_ptr(),
             tags.table.len(),
             tags.rule_memory.as_mut_ptr(),

@@ -1,6 +1,6 @@
 //! A machine that owns its memory.
 
-use crate::{handler_count, plain, sys, tagged, Lent, Refusal, Report, Tags, RULE_MEMORY_WORDS};
+use crate::{handler_count, plain, sys, tagged, Clearances, Lent, Refusal, Report, Tags, RULE_MEMORY_WORDS};
 use std::fmt;
 
 /// A number with a label, the set of owners 0 to 31 by bits.
@@ -45,8 +45,8 @@ pub enum Entry {
     Frame(Atom),
 }
 
-/// Cells, working space, output space and rule memory. A run starts at place 0 with an empty stack and no lines, from
-/// the cells and the rule memory that the run before left.
+/// Cells, working space, output space, rule memory and clearances. A run starts at place 0 with an empty stack and no
+/// lines, from the cells and the rule memory that the run before left, under the clearances that were last set.
 #[derive(Clone, Debug)]
 pub struct Machine {
     values: Vec<i64>,
@@ -59,12 +59,14 @@ pub struct Machine {
     kinds: Vec<i64>,
     pages: Vec<i64>,
     rule_memory: [i64; RULE_MEMORY_WORDS],
+    clearances: Clearances,
     depth: usize,
     lines: usize,
 }
 
 impl Machine {
-    /// A machine with these cells and room for so many lines, of which the end line is one.
+    /// A machine with these cells and room for so many lines, of which the end line is one. Every page is cleared for all
+    /// owners.
     pub fn new(cells: &[Atom], lines: usize) -> Machine {
         Machine {
             values: cells.iter().map(|cell| cell.number).collect(),
@@ -77,6 +79,7 @@ impl Machine {
             kinds: vec![0; lines],
             pages: vec![0; lines],
             rule_memory: [0; RULE_MEMORY_WORDS],
+            clearances: Clearances::ALL,
             depth: 0,
             lines: 0,
         }
@@ -85,16 +88,18 @@ impl Machine {
     /// Runs a sheet under the standard rules.
     pub fn run_plain(&mut self, sheet: &[u8], fuel: u64) -> Result<Report, Refusal> {
         self.make_room(sheet, 0);
+        let clearances = self.clearances;
         let (lent, _, _) = self.lent();
-        let report = plain(sheet, lent, fuel)?;
+        let report = plain(sheet, lent, &clearances, fuel)?;
         Ok(self.note(report))
     }
 
     /// Runs a sheet on the tag engine, under the rules of a table.
     pub fn run_tagged(&mut self, sheet: &[u8], table: &[u8], fuel: u64) -> Result<Report, Refusal> {
         self.make_room(sheet, 2 * handler_count(table).unwrap_or(0));
+        let clearances = self.clearances;
         let (lent, rule_memory, handler) = self.lent();
-        let report = tagged(sheet, lent, Tags { table, rule_memory, handler }, fuel)?;
+        let report = tagged(sheet, lent, Tags { table, rule_memory, handler }, &clearances, fuel)?;
         Ok(self.note(report))
     }
 
@@ -177,6 +182,15 @@ impl Machine {
 
     pub fn set_rule_memory(&mut self, words: [i64; RULE_MEMORY_WORDS]) {
         self.rule_memory = words;
+    }
+
+    pub fn clearances(&self) -> Clearances {
+        self.clearances
+    }
+
+    /// The clearances of the runs from now on.
+    pub fn set_clearances(&mut self, clearances: Clearances) {
+        self.clearances = clearances;
     }
 }
 

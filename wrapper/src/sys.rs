@@ -1,7 +1,10 @@
 //! `include/luvrodan.h` as Rust declarations. The rest of the crate is over these and is safe.
 
-/// Pages of a run: their numbers are 0 to 15.
+/// Pages of a run: their numbers are 0 to 15. A run takes a clearance word for each.
 pub const PAGE_COUNT: usize = 16;
+
+/// The clearance word of a page that is cleared for all owners.
+pub const ALL_OWNERS: i64 = 4_294_967_295;
 
 /// Bytes of the longest page.
 pub const PAGE_LIMIT: usize = 33_792;
@@ -52,6 +55,8 @@ extern "C" {
         value_count: usize,
         labels: *mut i64,
         label_count: usize,
+        clearances: *const i64,
+        clearance_count: usize,
         program: *mut i64,
         program_words: usize,
         stack: *mut i64,
@@ -74,6 +79,8 @@ extern "C" {
         value_count: usize,
         labels: *mut i64,
         label_count: usize,
+        clearances: *const i64,
+        clearance_count: usize,
         table: *const u8,
         table_length: usize,
         rule_memory: *mut i64,

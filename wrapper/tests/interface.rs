@@ -1,9 +1,10 @@
-//! The wrapper's own part: names of refusals and stops, owned memory, pages, texts.
+//! The wrapper's own part: names of refusals and stops, owned memory, clearances, pages, texts.
 
+use luvrodan::sys::ALL_OWNERS;
 use luvrodan::{
-    assemble, assemble_into, handler_count, list, list_into, page, page_into, plain, tagged, Atom, Entry,
-    Kind, Lent, Line, Machine, Refusal, ShortBuffer, Space, Stop, Tags, PAGE_LIMIT, SHEET_LIMIT,
-    STANDARD_TABLE, TEXT_LIMIT,
+    assemble, assemble_into, handler_count, list, list_into, page, page_into, plain_raw, tagged_raw, Atom,
+    Clearances, Entry, Kind, Lent, Line, Machine, Refusal, ShortBuffer, Space, Stop, Tags, PAGE_LIMIT,
+    SHEET_LIMIT, STANDARD_TABLE, TEXT_LIMIT,
 };
 
 const CELLS: [Atom; 2] = [Atom { number: 7, label: 0 }, Atom { number: 5, label: 1 }];
@@ -138,6 +139,77 @@ fn overflow() {
 }
 
 #[test]
+fn clearances() {
+    assert_eq!(Clearances::default(), Clearances::ALL);
+    assert_eq!(Clearances::ALL.words(), &[ALL_OWNERS; 16]);
+    assert_eq!(Clearances::new([u32::MAX; 16]), Clearances::ALL);
+    let some = Clearances::ALL.with(0, 5).with(15, 0);
+    assert_eq!([0, 1, 14, 15].map(|page| some.of(page)), [5, u32::MAX, u32::MAX, 0]);
+    let mut sets = [u32::MAX; 16];
+    (sets[0], sets[15]) = (5, 0);
+    assert_eq!(Clearances::new(sets), some);
+    let mut machine = Machine::new(&CELLS, 0);
+    assert_eq!(machine.clearances(), Clearances::ALL);
+    machine.set_clearances(some);
+    assert_eq!(machine.clearances(), some);
+}
+
+#[test]
+#[should_panic(expected = "there is no page 16")]
+fn no_such_page() {
+    let _ = Clearances::ALL.with(16, 0);
+}
+
+#[test]
+fn lines_not_cleared() {
+    // A public number and a secret one, both on page 15; the second has been ruled on.
+    let sheet = sheet(&[&push(3), &[12, 15], &push(1), &[6, 12, 15]]);
+    let mut machine = Machine::new(&CELLS, 3);
+    for (clearances, stop) in [
+        (Clearances::ALL, Stop::End),
+        (Clearances::ALL.with(15, 1), Stop::End),
+        (Clearances::ALL.with(14, 0).with(0, 0), Stop::End),
+        (Clearances::ALL.with(15, 0), Stop::NotCleared),
+        (Clearances::ALL.with(15, !1), Stop::NotCleared),
+    ] {
+        machine.set_clearances(clearances);
+        for engine in ["plain", "tagged"] {
+            let report = match engine {
+                "plain" => machine.run_plain(&sheet, 100),
+                _ => machine.run_tagged(&sheet, &STANDARD_TABLE, 100),
+            }
+            .unwrap();
+            assert_eq!(report.stop, stop);
+            if stop == Stop::NotCleared {
+                assert_eq!((report.stop.number(), report.steps, report.place, report.lines), (10, 4, 4, 1));
+                assert_eq!(view(&machine, 1), ["15 3 00000000"]);
+                assert_eq!(machine.stack().collect::<Vec<_>>(), [Entry::Value(CELLS[1])]);
+                assert!(!machine.view_is_whole(1));
+            }
+        }
+        assert_eq!(machine.rule_memory(), [12, 0, 1, -1, -1, 0, 1]);
+    }
+    assert_eq!(Stop::NotCleared.to_string(), "line not cleared for its page");
+}
+
+#[test]
+fn end_not_cleared() {
+    // After a branch on cell 1 the end is owner 0's, for whom page 0 is not cleared; with and without room for its line.
+    let sheet = sheet(&[&push(3), &[4], &push(1), &[6, 9, 1, 0]]);
+    for room in [2, 1] {
+        let mut machine = Machine::new(&CELLS, room);
+        machine.set_clearances(Clearances::ALL.with(0, 2));
+        for fuel in [5, 6] {
+            let report = machine.run_tagged(&sheet, &STANDARD_TABLE, fuel).unwrap();
+            assert_eq!((report.stop, report.steps), (Stop::NotCleared, 5));
+            assert_eq!((report.place, report.place_label, report.lines), (5, 1, 1));
+            assert_eq!(machine.run_plain(&sheet, fuel).unwrap().stop, Stop::NotCleared);
+            assert!(!machine.view_is_whole(1));
+        }
+    }
+}
+
+#[test]
 fn refusals() {
     let mut machine = Machine::new(&CELLS, 0);
     let mut refused = |sheet: &[u8], fuel| machine.run_plain(sheet, fuel).unwrap_err();
@@ -166,10 +238,10 @@ fn refusals() {
 }
 
 /// Runs on lent memory with these lengths of program, stack and handler, without output space.
-fn lend(lengths: [usize; 3], label: i64) -> [Result<Stop, Refusal>; 2] {
+fn lend(lengths: [usize; 3], label: i64, clearances: &[i64]) -> [Result<Stop, Refusal>; 2] {
     let [mut program, mut stack, mut handler] = lengths.map(|length| vec![9; length]);
     let (values, labels, rule_memory) = (&mut [1], &mut [label], &mut [0; 7]);
-    let by_plain = plain(
+    let by_plain = plain_raw(
         &[3],
         Lent {
             values,
@@ -181,6 +253,7 @@ fn lend(lengths: [usize; 3], label: i64) -> [Result<Stop, Refusal>; 2] {
             kinds: &mut [],
             pages: &mut [],
         },
+        clearances,
         9,
     );
     let lent = Lent {
@@ -194,18 +267,48 @@ fn lend(lengths: [usize; 3], label: i64) -> [Result<Stop, Refusal>; 2] {
         pages: &mut [],
     };
     let tags = Tags { table: &STANDARD_TABLE, rule_memory, handler: &mut handler };
-    [by_plain, tagged(&[3], lent, tags, 9)].map(|answer| answer.map(|report| report.stop))
+    let by_tags = tagged_raw(&[3], lent, tags, clearances, 9);
+    [by_plain, by_tags].map(|raw| raw.named().map(|report| report.stop))
 }
 
 #[test]
 fn lent_memory() {
     let handler = 2 * handler_count(&STANDARD_TABLE).unwrap();
     assert_eq!(handler_count(&[]), None);
+    let lend = |lengths, label| lend(lengths, label, Clearances::ALL.words());
     assert_eq!(lend([2, 768, handler], 0), [Ok(Stop::ValueMissing); 2]);
     assert_eq!(lend([1, 768, handler], 0), [Err(Refusal::ShortSpace(Space::Program)); 2]);
     assert_eq!(lend([2, 767, handler], 0), [Err(Refusal::ShortSpace(Space::Stack)); 2]);
     assert_eq!(lend([2, 768, handler - 1], 0)[1], Err(Refusal::ShortSpace(Space::Handler)));
     assert_eq!(lend([2, 768, handler], -1), [Err(Refusal::LabelOutside { cell: 0 }); 2]);
+}
+
+#[test]
+fn clearance_words() {
+    let spaces = [2, 768, 2 * handler_count(&STANDARD_TABLE).unwrap()];
+    let all = [ALL_OWNERS; 16];
+    let with = |page: usize, word: i64| {
+        let mut words = all;
+        words[page] = word;
+        words
+    };
+    for page in [0, 1, 15] {
+        let refused = [Err(Refusal::Clearance { page: page as u64 }); 2];
+        for word in [-1, ALL_OWNERS + 1, i64::MIN, i64::MAX] {
+            assert_eq!(lend(spaces, 0, &with(page, word)), refused);
+        }
+        assert_eq!(lend(spaces, 0, &with(page, 0)), [Ok(Stop::ValueMissing); 2]);
+    }
+    // Another number of words goes before a word of them.
+    let refused = [Err(Refusal::Clearance { page: 16 }); 2];
+    for words in [&[][..], &all[1..], &with(0, -1)[..15], &[ALL_OWNERS; 17], &[-1; 17]] {
+        assert_eq!(lend(spaces, 0, words), refused);
+    }
+    // After the cells, before the spaces.
+    assert_eq!(lend(spaces, -1, &[]), [Err(Refusal::LabelOutside { cell: 0 }); 2]);
+    assert_eq!(lend([1, 0, 0], 0, &with(3, -1)), [Err(Refusal::Clearance { page: 3 }); 2]);
+    let refusal = Refusal::Clearance { page: 3 };
+    assert_eq!((refusal.number(), refusal.place(), refusal.to_string()), (13, 3, "refused 13 3".into()));
 }
 
 #[test]

@@ -6,6 +6,7 @@ use Prim.Native.Nat.{ℕ}
 use lib.IntN.{ℤ}
 use lib.ListN.{length}
 use Rattle.machine.specs.Rule.{Policy, standard}
+use Rattle.engine.specs.declared.Clearances.{Clearances}
 use Rattle.engine.specs.declared.Ran.{Ran}
 use Rattle.engine.specs.declared.Answer.the-variants as Answer
 use Rattle.engine.specs.Memory.{Memory}
@@ -25,9 +26,9 @@ same-ended : (x : Ended Tag) (y : Ended Unit) → SameEnd x y → y ≡ ended (x
 same-ended x y h = ap₂ (λ a m. ended a tt m) (sym (h .answer)) (sym (h .memory))
 
 pub tagged-reads : Reads
-tagged-reads sheet bytes row m handler fuel size r u after handler′ e =
-    let x : Left = tagged sheet bytes row m handler fuel in
-    let (t, q, same) = stopped-reads sheet bytes row size m handler fuel r (ap (λ (y : Left). y .ended .answer) e) in (
+tagged-reads sheet bytes row c m handler fuel size r u after handler′ e =
+    let x : Left = tagged sheet bytes row c m handler fuel in
+    let (t, q, same) = stopped-reads sheet bytes row size c m handler fuel r (ap (λ (y : Left). y .ended .answer) e) in (
       t,
       q,
       same-ended (x .ended) _ same
@@ -35,29 +36,29 @@ tagged-reads sheet bytes row m handler fuel size r u after handler′ e =
     )
 
 pub tagged-runs : Runs
-tagged-runs sheet bytes row m handler fuel size kept =
-    let (r, u, after, e, stop, steps) = tagged-demand sheet m fuel bytes row handler .otherwise kept in
-    let space = tagged sheet bytes row m handler fuel .handler in
+tagged-runs sheet bytes row c m handler fuel size kept =
+    let (r, u, after, e, stop, steps) = tagged-demand sheet c m fuel bytes row handler .otherwise kept in
+    let space = tagged sheet bytes row c m handler fuel .handler in
     let is = ap (λ (x : Ended Tag). left x space) e in
-    let (t, q, run) = tagged-reads sheet bytes row m handler fuel size r u after space is in
+    let (t, q, run) = tagged-reads sheet bytes row c m handler fuel size r u after space is in
     (t, q, (r, u, after, space, run, is))
 
 -- of the standard table: the plain engine's run
-pub tagged-plain : (sheet : List ℕ) (m : Memory) (fuel : ℕ) (row handler : List ℤ) → length row ≡ 7
+pub tagged-plain : (sheet : List ℕ) (c : Clearances) (m : Memory) (fuel : ℕ) (row handler : List ℤ) → length row ≡ 7
     → (r : Ran) (u : Tag) (after : Memory) (handler′ : List ℤ)
-    → tagged sheet standardBytes row m handler fuel ≡ left (ended (Answer.Stopped r) u after) handler′
-    → plain sheet m fuel ≡ ended (Answer.Stopped r) tt after
+    → tagged sheet standardBytes row c m handler fuel ≡ left (ended (Answer.Stopped r) u after) handler′
+    → plain sheet c m fuel ≡ ended (Answer.Stopped r) tt after
 unfolding plain
-tagged-plain sheet m fuel row handler size r u after handler′ e =
-    let (t, q, run) = tagged-reads sheet standardBytes row m handler fuel size r u after handler′ e in
+tagged-plain sheet c m fuel row handler size r u after handler′ e =
+    let (t, q, run) = tagged-reads sheet standardBytes row c m handler fuel size r u after handler′ e in
     let read = sym q ∙ standard-read in
     let is : t ≡ standardTable = cc in
     let rules : evaluate t ≡ standard = ap evaluate is ∙ fun-ext evaluate-standard in
-    ap (λ (π : Policy). directly π sheet m fuel) (sym rules) ∙ run
+    ap (λ (π : Policy). directly π sheet c m fuel) (sym rules) ∙ run
 
 pub engines-agree : Claim
-engines-agree sheet m fuel row handler size p after e r u after′ handler′ f =
-    let same = sym (tagged-plain sheet m fuel row handler size r u after′ handler′ f) ∙ e in
+engines-agree sheet c m fuel row handler size p after e r u after′ handler′ f =
+    let same = sym (tagged-plain sheet c m fuel row handler size r u after′ handler′ f) ∙ e in
     let answers = ap (λ (x : Ended Unit). x .answer) same in
     let ran : r ≡ p = cc in
     (ran, ap (λ (x : Ended Unit). x .memory) same)

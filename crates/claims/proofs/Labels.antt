@@ -34,7 +34,7 @@ stores-append : (zs : List ℤ) (z : ℤ) → Each Stores zs → Stores z → Ea
 stores-append [] z h g = (g, tt)
 stores-append (y ∷ zs) z h g = (h .0, stores-append zs z (h .1) g)
 
-stores-kept : (i : ℕ) (zs : List ℤ) → Each Stores zs → labelsLimit i zs ≡ Kept
+stores-kept : (i : ℕ) (zs : List ℤ) → Each Stores zs → labelsLimit 5 i zs ≡ Kept
 unfolding labelsLimit
 stores-kept i [] h = refl
 stores-kept i (z ∷ zs) h = rw (h .0 .1) (stores-kept (suc i) zs (h .1))
@@ -103,7 +103,7 @@ from-ranged s bytes (suc n) at h g =
     choose-has Ranged (ltb at (length s)) (follow (itemAt s at) at h on) (reading h (bad (length s)))
     (item-ranged s bytes on (λ at′ h′ g′. from-ranged s bytes n at′ h′ g′) at h g) g
 
-pub labels-kept : (job : List ℕ) → Bytes job → labelsLimit 0 (readJob job .heard .labels) ≡ Kept
+pub labels-kept : (job : List ℕ) → Bytes job → labelsLimit 5 0 (readJob job .heard .labels) ≡ Kept
 unfolding readJob
 labels-kept job bytes =
     stores-kept 0 _

@@ -219,13 +219,13 @@ pages-meant job e r stopped =
     let s : Shown (readJob job .heard) (sheetOf job) (pageOf job) = shown job e in
     let v = view (readerOf job) (s .lines) in
     let same : s .ran ≡ r = let x = sym (s .stopped) ∙ stopped in cc in
-    let means : Views.Means (readerOf job) v (s .ran .stop) (s .ran .machine .label .0) = runs-meant _ _ _ _ _ (s .by) in
+    let means : Views.Means (readerOf job) v (s .ran .stop) (s .ran .machine .label .0) = runs-meant _ _ _ _ _ _ (s .by) in
     subst (Means job) same
     (record {
       present = λ ends. means .present (ends-end v (subst Ends (s .is) ends));
       missing =
           λ never-ends.
-          means .missing (unended v (subst (λ (p : List ℕ). Ends p → ⊥) (s .is) never-ends) (runs-whole _ _ _ _ _ (s .by)));
+          means .missing (unended v (subst (λ (p : List ℕ). Ends p → ⊥) (s .is) never-ends) (runs-whole _ _ _ _ _ _ (s .by)));
     })
 
 pub pages-complete : Complete

@@ -17,7 +17,7 @@ use Rattle.machine.specs.Claim.{keep, view, OneStartsOther}
 use Rattle.engine.specs.declared.Ran as Engine
 use Rattle.engine.specs.declared.Answer.{Answer}
 use Rattle.engine.specs.declared.Answer.the-variants as Answer
-use Rattle.engine.specs.Memory.{Memory}
+use Rattle.engine.specs.Memory.{allCleared, Memory}
 use Rattle.engine.specs.Layout.{cellsOf}
 use Rattle.engine.specs.Ended.{Ended, ended}
 use Rattle.tagging.specs.Consult.{Tag}
@@ -55,7 +55,7 @@ pub record Shown (h : Heard) (bytes : List ℕ) (page : List ℕ) : Type 0 where
   pub ran : Engine.Ran
   pub lines : List Line
   pub stopped : endFor (cellWordsOf h) (h .allowance) bytes .ended .answer ≡ Answer.Stopped ran
-  pub by : Ran bytes (cellsOf (cellWordsOf h)) ran lines
+  pub by : Ran bytes allCleared (cellsOf (cellWordsOf h)) ran lines
   pub is : page ≡ texts lineText (view (h .reader) lines)
 
 shown-run : (h : Heard) (bytes : List ℕ) → answered (endFor (cellWordsOf h) (h .allowance) bytes .ended .answer) ≡ Pages.ran
@@ -98,8 +98,10 @@ pages-related So views To text job₁ job₂ e₁ e₂ sheets readers alike =
     let s₁ = shown job₁ e₁ in
     let s₂ = shown job₂ e₂ in
     let S = readerOf job₁ in
-    let ran₂ = subst (λ (x : List ℕ). Ran x (cellsGiven job₂) (s₂ .ran) (s₂ .lines)) (sym sheets) (s₂ .by) in
-    let so = views S (sheetOf job₁) (cellsGiven job₁) (cellsGiven job₂) (s₁ .ran) (s₂ .ran) (s₁ .lines) (s₂ .lines) (s₁ .by) ran₂ alike in
+    let ran₂ = subst (λ (x : List ℕ). Ran x allCleared (cellsGiven job₂) (s₂ .ran) (s₂ .lines)) (sym sheets) (s₂ .by) in
+    let so =
+    views S (sheetOf job₁) allCleared allCleared (cellsGiven job₁) (cellsGiven job₂) (s₁ .ran) (s₂ .ran) (s₁ .lines) (s₂ .lines) (s₁ .by) ran₂
+    alike in
     let page₂ = s₂ .is ∙ ap (λ (S : ℕ). texts lineText (view S (s₂ .lines))) (sym readers) in
     subst (λ (p : List ℕ). To p (pageOf job₂)) (sym (s₁ .is))
     (subst (λ (p : List ℕ). To (texts lineText (view S (s₁ .lines))) p) (sym page₂) (text _ _ so))

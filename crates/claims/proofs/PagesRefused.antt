@@ -15,6 +15,7 @@ use Rattle.machine.specs.Claim.{OneStartsOther}
 use Rattle.engine.specs.declared.start.Limit.the-variants.{Kept}
 use Rattle.engine.specs.declared.start.Given.{Given}
 use Rattle.engine.specs.declared.start.Own.{Own}
+use Rattle.engine.specs.Memory.{allCleared}
 use Rattle.engine.specs.Start.{labelsLimit, startDecoded, startOf}
 use Rattle.policy.specs.Read.{readTable}
 use Rattle.policy.specs.Standard.{standardBytes}
@@ -35,7 +36,7 @@ startFate (accepted cs) = Pages.ran
 
 -- what the start of a job comes to, with the page program's spaces
 abbrev started : Heard → List ℕ → Decoded
-started h bytes = startTagged bytes (readTable standardBytes) (zeros 7) (lentFor (cellWordsOf h)) handlerSpace (h .allowance)
+started h bytes = startTagged bytes (readTable standardBytes) (zeros 7) allCleared (lentFor (cellWordsOf h)) handlerSpace (h .allowance)
 
 -- the fate of a sheet with an allowance, and no cells
 abbrev without : ℕ → Heard
@@ -44,7 +45,7 @@ without fuel = record { values = []; labels = []; allowance = fuel; reader = 0 }
 abbrev sheetFate : List ℕ → ℕ → Fate
 sheetFate bytes fuel = startFate (started (without fuel) bytes)
 
-module _ (h : Heard) (few : Few h) (labels : labelsLimit 0 (h .labels) ≡ Kept) (bytes : List ℕ) where
+module _ (h : Heard) (few : Few h) (labels : labelsLimit 5 0 (h .labels) ≡ Kept) (bytes : List ℕ) where
   abbrev lengths : (values program stack : ℕ) → Given
   lengths values program stack = record { values = values; program = program; stack = stack; fuel = h .allowance }
 
@@ -53,7 +54,8 @@ module _ (h : Heard) (few : Few h) (labels : labelsLimit 0 (h .labels) ≡ Kept)
   start-same = go (decode bytes) _ _ _
     where
       go : (d : Decoded) (program stack : ℕ) (own : Own)
-          → startDecoded d (h .labels) (lengths (length (h .values)) program stack) own ≡ startDecoded d [] (lengths 0 program stack) own
+          → startDecoded d (h .labels) allCleared (lengths (length (h .values)) program stack) own
+          ≡ startDecoded d [] allCleared (lengths 0 program stack) own
       go (refused r) program stack own = refl
       go (accepted cs) program stack own =
           rw (eq-eqb (length (h .values)) (length (h .labels)) (sym (few .labels)), le-leb (length (h .values)) 1024 (few .values), labels)
@@ -63,7 +65,8 @@ module _ (h : Heard) (few : Few h) (labels : labelsLimit 0 (h .labels) ≡ Kept)
   start-answered = go (started h bytes)
     where
       go : (d : Decoded)
-          → answered (taggedOf d (readTable standardBytes) (zeros 7) (lentFor (cellWordsOf h)) handlerSpace (h .allowance) .ended .answer)
+          → answered
+          (taggedOf d (readTable standardBytes) (zeros 7) allCleared (lentFor (cellWordsOf h)) handlerSpace (h .allowance) .ended .answer)
           ≡ startFate d
       go (refused r) = refl
       go (accepted cs) = refl

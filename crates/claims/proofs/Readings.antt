@@ -14,6 +14,7 @@ use Rattle.program.specs.Command.{opcodeOf}
 use Rattle.program.specs.Decode.{decodeFrom, decode}
 use Rattle.program.specs.Encode.{encode}
 use Rattle.machine.specs.Rule.{standard}
+use Rattle.machine.specs.Environment.{barrier}
 use Rattle.machine.specs.Step.{request, execute}
 use Rattle.machine.specs.Run.{step, asked, run, along}
 use Rattle.engine.specs.Layout.{paired}
@@ -36,7 +37,7 @@ use Rattle.claims.specs.Reading.{given, computed, expected, readings, ot
 pub readings-hold : map computed (readings ++ others) ≡ map expected (readings ++ others)
 unfolding given pageOf runText readJob readFrom itemAt fourAt pageText lineText linesText digitsOf valueOf residue signed wrap addWrap subWrap
     bitsAt unsignedAt signedAt bytesOf laid digitChar numeral digitCount natural decimal hexadecimal union subset join flows stored
-    lowLabel opcodeOf decodeFrom decode encode request execute step asked run along paired labelsLimit tokenOf tokenAt readLabel
+    lowLabel opcodeOf decodeFrom decode encode barrier request execute step asked run along paired labelsLimit tokenOf tokenAt readLabel
     readCondition readRuleWith readRules readTable acceptedRow evaluate orWord effect handle Kernel.step Kernel.run compileRule translate
     matches consult startOf standard plain tagged
 readings-hold = refl

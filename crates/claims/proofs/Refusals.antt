@@ -19,11 +19,12 @@ use Rattle.machine.specs.Rule.{Ruler, standard, fixed}
 use Rattle.machine.specs.Run.{Result}
 use Rattle.machine.proofs.Run.{run-steps}
 use Rattle.machine.proofs.Stops.{stop-number}
+use Rattle.engine.specs.declared.Clearances.{Clearances}
 use Rattle.engine.specs.declared.Answer.the-variants as Answer
 use Rattle.engine.specs.declared.start.Limit.{Limit}
 use Rattle.engine.specs.declared.start.Limit.the-variants.{Broken, Kept}
 use Rattle.engine.specs.declared.start.Own as Limits
-use Rattle.engine.specs.Memory.{Memory, room}
+use Rattle.engine.specs.Memory.{Memory, surroundings}
 use Rattle.engine.specs.Start.{keptIf, orElse, firstOf, orLabel, labelsLimit, given, limits, within, startDecoded, startOf}
 use Rattle.engine.specs.Start as Engine
 use Rattle.engine.specs.Ended.{Ended, ended, begin, resultOf, summary, engineOf}
@@ -110,14 +111,14 @@ table-decides bytes t e P b ok bad = test-decides b other (λ f. (t, e, bad f))
     other : b ≡ true → OfTable bytes P → ⊥
     other f (u, g, h) = let k = sym g ∙ e in let same : u ≡ t = cc in ok f (rw same at h)
 
-labels-decides : (i : ℕ) (ws : List ℤ) → Decides (Labels i ws) (labelsLimit i ws)
+labels-decides : (check i : ℕ) (ws : List ℤ) → Decides (Labels check i ws) (labelsLimit check i ws)
 unfolding labelsLimit stored
-labels-decides i [] = passes (λ r h. h)
-labels-decides i (negsuc n ∷ ws) = first-decides (broken tt) gives-one
-labels-decides i (pos n ∷ ws) = go (ltb n (2 ^ 32)) refl (labels-decides (suc i) ws)
+labels-decides check i [] = passes (λ r h. h)
+labels-decides check i (negsuc n ∷ ws) = first-decides (broken tt) gives-one
+labels-decides check i (pos n ∷ ws) = go (ltb n (2 ^ 32)) refl (labels-decides check (suc i) ws)
   where
-    go : (b : Bool) → ltb n (2 ^ 32) ≡ b → Decides (Labels (suc i) ws) (labelsLimit (suc i) ws)
-        → Decides (Labels i (pos n ∷ ws)) (orLabel (storedIf b n) i (labelsLimit (suc i) ws))
+    go : (b : Bool) → ltb n (2 ^ 32) ≡ b → Decides (Labels check (suc i) ws) (labelsLimit check (suc i) ws)
+        → Decides (Labels check i (pos n ∷ ws)) (orLabel check (storedIf b n) i (labelsLimit check (suc i) ws))
     go true e h = next-decides (λ r p. let g = ltb-true n (2 ^ 32) e in let o = gives-holds r p in omega arith) h
     go false e h = first-decides (broken (ltb-false n (2 ^ 32) e)) gives-one
 
@@ -135,32 +136,34 @@ abbrev limitOf : Decoded → Limit
 limitOf (Decode.refused r) = Broken r
 limitOf (Decode.accepted cs) = Kept
 
-module _ (sheet : List ℕ) (m : Memory) (fuel : ℕ) (own : Own) (lim : Limits.Own) (owns : Owns own lim) where
+module _ (sheet : List ℕ) (c : Clearances) (m : Memory) (fuel : ℕ) (own : Own) (lim : Limits.Own) (owns : Owns own lim) where
   start-decides : (d : Decoded) → decode sheet ≡ d
-      → Decides (Checks sheet m fuel own) (limitOf (startDecoded d (m .lent .cells .labels) (given m fuel) lim))
+      → Decides (Checks sheet c m fuel own) (limitOf (startDecoded d (m .lent .cells .labels) c (given m fuel) lim))
   start-decides (Decode.refused r) e = first-decides e (λ q f. let k = sym f ∙ e in cc)
   start-decides (Decode.accepted cs) e =
-      go (firstOf (limits (length cs) (m .lent .cells .labels) (given m fuel) lim))
+      go (firstOf (limits (length cs) (m .lent .cells .labels) c (given m fuel) lim))
       (next-decides (λ q f. let k = sym f ∙ e in never (cc))
       (before-decides (test-decides _ (λ e h. h (eqb-true _ _ e)) (eqb-false _ _)) (λ k.
       before-decides (wanted (length (m .lent .cells .values)) 1024) (λ k.
-      before-decides (labels-decides 0 (m .lent .cells .labels)) (λ k.
+      before-decides (labels-decides 5 0 (m .lent .cells .labels)) (λ k.
+      before-decides (test-decides _ (λ e h. h (eqb-true _ _ e)) (eqb-false _ _)) (λ k.
+      before-decides (labels-decides 13 0 (c .words)) (λ k.
       before-decides (owns .rules) (λ kept.
       before-decides (owns .row kept) (λ k.
       before-decides
       (commands-decides sheet cs e (λ ds. length (m .program) < 2 * length ds) _ (enough _ _) (leb-false _ _)) (λ k.
       before-decides (wanted 768 (length (m .lent .stack))) (λ k.
       before-decides (owns .handler kept) (λ k.
-      before-decides (wanted fuel 1000000) (λ k. passes (λ r h. h))))))))))))
+      before-decides (wanted fuel 1000000) (λ k. passes (λ r h. h))))))))))))))
     where
-      go : (x : Limit) → Decides (Checks sheet m fuel own) x → Decides (Checks sheet m fuel own) (limitOf (within x cs))
+      go : (x : Limit) → Decides (Checks sheet c m fuel own) x → Decides (Checks sheet c m fuel own) (limitOf (within x cs))
       go (Broken r) h = h
       go Kept h = h
 
 -- what an engine leaves, by what its start came to
-module _ {R : Type 0} (ρ : Ruler R) (u : R) (m : Memory) (fuel : ℕ) {checks : Refusal → Type 0} where
+module _ {R : Type 0} (ρ : Ruler R) (u : R) (c : Clearances) (m : Memory) (fuel : ℕ) {checks : Refusal → Type 0} where
   engine-demand : (d : Decoded) → Decides checks (limitOf d)
-      → Demand checks (λ r. engineOf ρ d u m fuel ≡ ended (Answer.Refused r) u m) (StoppedBy fuel (engineOf ρ d u m fuel))
+      → Demand checks (λ r. engineOf ρ d u c m fuel ≡ ended (Answer.Refused r) u m) (StoppedBy fuel (engineOf ρ d u c m fuel))
   engine-demand (Decode.refused r) (refuses given one) =
       record {
         only = λ q e. let k = ap (λ (x : Ended R). x .answer) e in let same : r ≡ q = cc in rw same at given;
@@ -168,8 +171,8 @@ module _ {R : Type 0} (ρ : Ruler R) (u : R) (m : Memory) (fuel : ℕ) {checks :
         otherwise = λ none. absurd (none r given);
       }
   engine-demand (Decode.accepted cs) (passes none) =
-      let r : Result R = resultOf ρ cs u m fuel in
-      let h = run-steps ρ (room (m .output)) cs fuel (begin m) u .most in
+      let r : Result R = resultOf ρ cs u c m fuel in
+      let h = run-steps ρ (surroundings c (m .output)) cs fuel (begin m) u .most in
       record {
         only = λ q e. let k = ap (λ (x : Ended R). x .answer) e in never (cc);
         always = λ q h. absurd (none q h);
@@ -185,9 +188,9 @@ none-owns = record { rules = passes (λ r h. h); row = λ k. passes (λ r h. h);
 
 pub plain-demand : PlainClaim
 unfolding plain startOf
-plain-demand sheet m fuel =
-    engine-demand (fixed standard) tt m fuel (startOf sheet (m .lent .cells .labels) (given m fuel) Engine.noneOwn)
-    (start-decides sheet m fuel noneOwn Engine.noneOwn none-owns (decode sheet) refl)
+plain-demand sheet c m fuel =
+    engine-demand (fixed standard) tt c m fuel (startOf sheet (m .lent .cells .labels) c (given m fuel) Engine.noneOwn)
+    (start-decides sheet c m fuel noneOwn Engine.noneOwn none-owns (decode sheet) refl)
 
 tagged-owns : (bytes : List ℕ) (row handler : List ℤ) (q : ReadTable) → readTable bytes ≡ q
     → Owns (taggedOwn bytes row handler) (ownOf q row (length handler))
@@ -201,35 +204,35 @@ tagged-owns bytes row handler (table t) e =
       handler = λ k. table-decides bytes t e (λ u. length handler < 2 * length (translate u)) _ (enough _ _) (leb-false _ _);
     }
 
-module _ (sheet : List ℕ) (m : Memory) (fuel : ℕ) (bytes : List ℕ) (row handler : List ℤ) where
+module _ (sheet : List ℕ) (c : Clearances) (m : Memory) (fuel : ℕ) (bytes : List ℕ) (row handler : List ℤ) where
   abbrev checks : Refusal → Type 0
-  checks = Checks sheet m fuel (taggedOwn bytes row handler)
+  checks = Checks sheet c m fuel (taggedOwn bytes row handler)
 
   abbrev leaves : Decoded → Left
-  leaves d = taggedOf d (readTable bytes) row m handler fuel
+  leaves d = taggedOf d (readTable bytes) row c m handler fuel
 
   tagged-left : (d : Decoded) → Decides checks (limitOf d)
       → Demand checks (λ r. leaves d .ended ≡ ended (Answer.Refused r) (tagOf row) m) (StoppedBy fuel (leaves d .ended))
-      → TaggedDemand sheet m fuel bytes row handler (leaves d)
+      → TaggedDemand sheet c m fuel bytes row handler (leaves d)
   tagged-left (Decode.refused r) h g =
       record {
         only = λ q e. g .only q (ap (λ (x : Left). x .ended) e);
-        always = λ q c. ap (λ x. left x handler) (g .always q c);
+        always = λ q h. ap (λ x. left x handler) (g .always q h);
         otherwise = g .otherwise;
       }
   tagged-left (Decode.accepted cs) (passes none) g =
       record {
         only = λ q e. g .only q (ap (λ (x : Left). x .ended) e);
-        always = λ q c. absurd (none q c);
+        always = λ q h. absurd (none q h);
         otherwise = g .otherwise;
       }
 
 pub tagged-demand : TaggedClaim
 unfolding tagged startOf
-tagged-demand sheet m fuel bytes row handler =
+tagged-demand sheet c m fuel bytes row handler =
     let decides =
-    start-decides sheet m fuel (taggedOwn bytes row handler) (ownOf (readTable bytes) row (length handler))
+    start-decides sheet c m fuel (taggedOwn bytes row handler) (ownOf (readTable bytes) row (length handler))
     (tagged-owns bytes row handler (readTable bytes) refl) (decode sheet) refl in
-    let d = startTagged sheet (readTable bytes) row m handler fuel in
-    tagged-left sheet m fuel bytes row handler d decides
-    (engine-demand (tagRuler (handlerOf (readTable bytes))) (tagOf row) m fuel d decides)
+    let d = startTagged sheet (readTable bytes) row c m handler fuel in
+    tagged-left sheet c m fuel bytes row handler d decides
+    (engine-demand (tagRuler (handlerOf (readTable bytes))) (tagOf row) c m fuel d decides)

@@ -1,18 +1,19 @@
--- Document 01's twelve starred readings, R1 to R12, with request U1's end lines, U2's stop 9 and U4's pages, and what they leave
--- open: what is asked of the engines and of the page, and what each must give. proofs/Readings.antt computes them.
+-- Document 01's twelve starred readings, R1 to R12, with request U1's end lines, U2's stop 9, U4's pages and U5's clearances, and what
+-- they leave open: what is asked of the engines and of the page, and what each must give. proofs/Readings.antt computes them.
 use Prim.Native.Nat.{ℕ, _^_, _*_, _-_}
 use mathlib.Core.List.{List, [], _∷_, _++_, map}
 use lib.IntN.{ℤ, pos, negsuc}
-use lib.ListN.{replicate}
+use lib.ListN.{replicate, set}
 use Rattle.program.specs.declared.Command.{Command}
 use Rattle.program.specs.declared.Command.the-variants.{Add, Sub, Output, Push, Load, Store, Jump, Bnz, Call, Ret, OutputTo}
 use Rattle.program.specs.Encode.{encode}
 use Rattle.machine.specs.Atom.{Atom, Line, numberLine, endLine}
 use Rattle.machine.specs.Step.{atom}
 use Rattle.step.specs.Lent.{cells}
+use Rattle.engine.specs.declared.Clearances.{Clearances}
 use Rattle.engine.specs.declared.Answer.{Answer}
 use Rattle.engine.specs.declared.Answer.the-variants as Answer
-use Rattle.engine.specs.Memory.{output, Memory}
+use Rattle.engine.specs.Memory.{output, allCleared, Memory}
 use Rattle.engine.specs.Memory as Lent
 use Rattle.engine.specs.Ended.{Ended}
 use Rattle.plain.specs.Plain.{plain}
@@ -26,11 +27,12 @@ use Rattle.claims.specs.Privacy.{cellsIn, linesIn}
 -- What is asked, and what is answered
 -- ════════════════════════════════════════════════════════════════════════════════════════════
 
--- a program, the number in C1, the rule memory, how many lines fit, and the allowance
+-- a program, the number in C1, the rule memory, the clearances, how many lines fit, and the allowance
 pub record Setting : Type 0 where
   pub program : List Command
   pub c1 : ℤ
   pub row : List ℤ
+  pub clearances : Clearances
   pub room : ℕ
   pub fuel : ℕ
 
@@ -59,7 +61,7 @@ lentTo s =
 
 -- the tag engine on the sheet's bytes and the standard table
 abbrev pub execute : Setting → Ended Tag
-execute s = tagged (encode (s .program)) standardBytes (s .row) (lentTo s) handlerSpace (s .fuel) .ended
+execute s = tagged (encode (s .program)) standardBytes (s .row) (s .clearances) (lentTo s) handlerSpace (s .fuel) .ended
 
 abbrev pub ending : Answer → Memory → Given
 ending (Answer.Refused r) m = refused (r .code) (r .position)
@@ -67,7 +69,7 @@ ending (Answer.Stopped x) m = run (x .stop) (x .steps) (linesIn x m)
 
 unfoldable pub given : Question → Given
 given (startOf s) = let e : Ended Tag = execute s in ending (e .answer) (e .memory)
-given (plainStart s) = let e : Ended Unit = plain (encode (s .program)) (lentTo s) (s .fuel) in ending (e .answer) (e .memory)
+given (plainStart s) = let e : Ended Unit = plain (encode (s .program)) (s .clearances) (lentTo s) (s .fuel) in ending (e .answer) (e .memory)
 given (cellsAfter s) = memory (cellsIn (execute s .memory))
 given (rowAfter s) = words (execute s .ruler .row)
 given (pageFor job) = page (pageOf job)
@@ -99,23 +101,27 @@ line n l = numberLine (pos 0) n l
 abbrev pub ends : ℕ → List Line
 ends p = endLine p ∷ []
 
--- an empty rule memory, and output space and an allowance that suffice
+-- an empty rule memory, every page cleared for all, and output space and an allowance that suffice
 abbrev pub sufficing : List Command → ℤ → Setting
-sufficing program c1 = record { program = program; c1 = c1; row = zeros 7; room = 16; fuel = 1_000_000 }
+sufficing program c1 =
+    record { program = program; c1 = c1; row = zeros 7; clearances = allCleared; room = 16; fuel = 1_000_000 }
 
 -- C1 = 5
 abbrev pub usual : List Command → Setting
 usual program = sufficing program (pos 5)
 
--- an allowance; room for so many lines; a rule memory, on the empty sheet
+-- an allowance; room for so many lines; clearances; a rule memory, on the empty sheet
+abbrev pub clearing : Clearances → (room fuel : ℕ) → List Command → Setting
+clearing c room fuel program = record { program = program; c1 = pos 5; row = zeros 7; clearances = c; room = room; fuel = fuel }
+
 abbrev pub narrow : (room fuel : ℕ) → List Command → Setting
-narrow room fuel program = record { program = program; c1 = pos 5; row = zeros 7; room = room; fuel = fuel }
+narrow room fuel program = clearing allCleared room fuel program
 
 abbrev pub paid : ℕ → List Command → Setting
 paid fuel program = narrow 16 fuel program
 
 abbrev pub from : List ℤ → Setting
-from row = record { program = []; c1 = pos 5; row = row; room = 16; fuel = 1_000_000 }
+from row = record { program = []; c1 = pos 5; row = row; clearances = allCleared; room = 16; fuel = 1_000_000 }
 
 -- a start of the tag engine alone, for its rule memory
 abbrev pub only : Setting → Given → List Fact
@@ -240,6 +246,24 @@ lineFive = 0x31 ∷ 0x35 ∷ 0x20 ∷ 0x35 ∷ 0x20 ∷ 0x30 ∷ 0x30 ∷ 0x30 �
 abbrev pub outputRow : ℕ → List ℤ
 outputRow code = pos code ∷ pos 1 ∷ pos 2 ∷ negsuc 0 ∷ negsuc 0 ∷ pos 1 ∷ pos 3 ∷ []
 
+-- every page is cleared for all but this one, which has this clearance word; and so many words
+abbrev pub closing : (at : ℕ) → ℤ → Clearances
+closing at word = record { words = set (allCleared .words) at word; count = 16 }
+
+abbrev pub numbering : ℕ → Clearances
+numbering count = record { words = allCleared .words; count = count }
+
+abbrev pub closed : (at : ℕ) → ℤ → List Command → Setting
+closed at word program = clearing (closing at word) 16 1_000_000 program
+
+-- a branch on C1, and then the end, where the place has label 1
+abbrev pub hiddenEnd : List Command
+hiddenEnd = Push (pos 1) ∷ Load ∷ Bnz (pos 1) ∷ []
+
+-- C0 on page 0, and then C1 on page 1
+abbrev pub printing : List Command
+printing = Push (pos 0) ∷ Load ∷ Output ∷ Push (pos 1) ∷ Load ∷ OutputTo (pos 1) ∷ []
+
 -- what they leave open
 abbrev pub storingLoaded : Setting
 storingLoaded = usual (Push (pos 1) ∷ Load ∷ Push (pos 0) ∷ Store ∷ [])
@@ -291,4 +315,27 @@ others =
     ∷ each (narrow 0 1_000_000 (Push (pos 1) ∷ OutputTo (pos 1) ∷ [])) (run 8 1 [])
     -- page 16 is refused, at the command's offset
     ∷ each (usual (Ret ∷ OutputTo (pos 16) ∷ [])) (refused 12 1)
+    -- stop 10: a page that is closed to owner 0 gets no line of label 1, and the lines before stay; the rule was asked
+    ∷ (each (closed 1 (pos 2) printing) (run 10 5 (line (pos 7) 0 ∷ []))
+    ++ (fact
+    (rowAfter (closed 1 (pos 2) printing))
+    (words (pos 12 ∷ pos 0 ∷ pos 1 ∷ negsuc 0 ∷ negsuc 0 ∷ pos 0 ∷ pos 1 ∷ []))
+    ∷ []))
+    -- a page that is cleared for owner 0, or for more, gets it, whatever the others are cleared for
+    ∷ each (closed 1 (pos 1) printing) (run 0 6 (line (pos 7) 0 ∷ numberLine (pos 1) (pos 5) 1 ∷ ends 0))
+    ∷ each (closed 1 (pos 3) printing) (run 0 6 (line (pos 7) 0 ∷ numberLine (pos 1) (pos 5) 1 ∷ ends 0))
+    ∷ each (closed 0 (pos 0) printing) (run 0 6 (line (pos 7) 0 ∷ numberLine (pos 1) (pos 5) 1 ∷ ends 0))
+    -- it comes before stop 8
+    ∷ each (clearing (closing 1 (pos 2)) 1 1_000_000 printing) (run 10 5 (line (pos 7) 0 ∷ []))
+    -- the end line needs page 0's clearance, before space and with no allowance left too
+    ∷ each (closed 0 (pos 0) hiddenEnd) (run 10 3 [])
+    ∷ each (clearing (closing 0 (pos 0)) 0 3 hiddenEnd) (run 10 3 [])
+    ∷ each (closed 0 (pos 1) hiddenEnd) (run 0 3 (ends 1))
+    ∷ each (closed 1 (pos 0) hiddenEnd) (run 0 3 (ends 1))
+    -- a clearance word outside 0 to 2^32 − 1 is refused, at its page; another number of words than sixteen at 16, first
+    ∷ each (closed 15 (pos (2 ^ 32 - 1)) []) (run 0 0 (ends 0))
+    ∷ each (closed 15 (pos (2 ^ 32)) []) (refused 13 15)
+    ∷ each (closed 0 (negsuc 0) []) (refused 13 0)
+    ∷ each (clearing (numbering 15) 16 1_000_001 []) (refused 13 16)
+    ∷ each (clearing (numbering 17) 16 1_000_000 []) (refused 13 16)
     ∷ []

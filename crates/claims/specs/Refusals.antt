@@ -1,6 +1,6 @@
 -- Demand 1 for every engine, of what their contracts say (`plain`, `tagged`): a start is refused by the first of document 01's checks that
--- applies, with its number and place, and then all that was lent is as it came; every other start is run to one of the ten stops within
--- its allowance. This file states it; proofs/Refusals.antt shows it.
+-- applies, with its number and place, and then all that was lent is as it came; every other start is run to one of the eleven stops
+-- within its allowance. This file states it; proofs/Refusals.antt shows it.
 use Prim.Native.Nat.{ℕ, suc, _*_, _^_, _<_, _≤_, min}
 use mathlib.Core.Path.{_≡_}
 use mathlib.Core.Logic.{_≢_}
@@ -12,6 +12,7 @@ use Rattle.program.specs.declared.Command.{Command}
 use Rattle.program.specs.declared.Refusal.{Refusal}
 use Rattle.program.specs.Decode.{refusal, decode}
 use Rattle.program.specs.Decode as Decode
+use Rattle.engine.specs.declared.Clearances.{Clearances}
 use Rattle.engine.specs.declared.Ran.{Ran}
 use Rattle.engine.specs.declared.Answer.the-variants as Answer
 use Rattle.engine.specs.Memory.{Memory}
@@ -53,14 +54,14 @@ FirstOf (c ∷ cs) = c before FirstOf cs
 abbrev pub Sheet : List ℕ → Check
 Sheet sheet r = decode sheet ≡ Decode.refused r
 
--- 5: a label word outside 0 to 2^32 − 1; of the cells from i on, the first such
+-- 5 and 13, by their number: a word outside 0 to 2^32 − 1; of the cells, or the pages, from i on, the first such
 abbrev pub Outside : ℤ → Type 0
 Outside (pos n) = 2 ^ 32 ≤ n
 Outside (negsuc n) = Unit
 
-abbrev pub Labels : ℕ → List ℤ → Check
-Labels i [] = λ r. ⊥
-Labels i (w ∷ ws) = Gives (Outside w) (refusal 5 i) before Labels (suc i) ws
+abbrev pub Labels : (number : ℕ) → ℕ → List ℤ → Check
+Labels number i [] = λ r. ⊥
+Labels number i (w ∷ ws) = Gives (Outside w) (refusal number i) before Labels number (suc i) ws
 
 -- a condition on the commands of a sheet, and one on the table of some bytes
 abbrev pub OfSheet : List ℕ → (List Command → Type 0) → Type 0
@@ -88,9 +89,9 @@ taggedOwn bytes row handler =
       handler = Gives (OfTable bytes (λ t. length handler < 2 * length (translate t))) (refusal 8 3);
     }
 
--- all of them, in document 01's order
-abbrev pub Checks : List ℕ → Memory → ℕ → Own → Check
-Checks sheet m fuel own =
+-- all of them, in their order
+abbrev pub Checks : List ℕ → Clearances → Memory → ℕ → Own → Check
+Checks sheet c m fuel own =
     let values = length (m .lent .cells .values) in
     let labels = length (m .lent .cells .labels) in
     FirstOf (
@@ -100,7 +101,10 @@ Checks sheet m fuel own =
     ∷ Gives (values ≢ labels) (refusal 4 (min values labels))
     ∷ Gives (1024 < values) (refusal 4 1024)
     -- 5
-    ∷ Labels 0 (m .lent .cells .labels)
+    ∷ Labels 5 0 (m .lent .cells .labels)
+    -- 13: the clearances are not sixteen words, else a word
+    ∷ Gives (c .count ≢ 16) (refusal 13 16)
+    ∷ Labels 13 0 (c .words)
     -- 6: unknown, misplaced, too deep, unsupplied, missing or left over; 7: neither empty nor an allowed row of this table
     ∷ own .rules
     ∷ own .row
@@ -123,24 +127,24 @@ pub record Demand (checks refused : Check) (stopped : Type 0) : Type 0 where
   pub always : (r : Refusal) → checks r → refused r
   pub otherwise : Nothing checks → stopped
 
--- one of the ten stops, within the allowance
+-- one of the eleven stops, within the allowance
 abbrev pub StoppedBy : {R : Type 0} → ℕ → Ended R → Type 0
 StoppedBy {R} fuel x =
-    (ran : Ran) × (u : R) × (after : Memory) × (x ≡ ended (Answer.Stopped ran) u after) × (ran .stop ≤ 9) × (ran .steps ≤ fuel)
+    (ran : Ran) × (u : R) × (after : Memory) × (x ≡ ended (Answer.Stopped ran) u after) × (ran .stop ≤ 10) × (ran .steps ≤ fuel)
 
-abbrev pub TaggedDemand : List ℕ → Memory → ℕ → List ℕ → (row handler : List ℤ) → Left → Type 0
-TaggedDemand sheet m fuel bytes row handler x =
-    Demand (Checks sheet m fuel (taggedOwn bytes row handler)) (λ r. x ≡ left (ended (Answer.Refused r) (tagOf row) m) handler)
+abbrev pub TaggedDemand : List ℕ → Clearances → Memory → ℕ → List ℕ → (row handler : List ℤ) → Left → Type 0
+TaggedDemand sheet c m fuel bytes row handler x =
+    Demand (Checks sheet c m fuel (taggedOwn bytes row handler)) (λ r. x ≡ left (ended (Answer.Refused r) (tagOf row) m) handler)
     (StoppedBy fuel (x .ended))
 
 -- for all arguments
 abbrev pub PlainClaim : Type 0
 PlainClaim =
-    (sheet : List ℕ) (m : Memory) (fuel : ℕ)
-    → let x : Ended Unit = plain sheet m fuel in
-    Demand (Checks sheet m fuel noneOwn) (λ r. x ≡ ended (Answer.Refused r) tt m) (StoppedBy fuel x)
+    (sheet : List ℕ) (c : Clearances) (m : Memory) (fuel : ℕ)
+    → let x : Ended Unit = plain sheet c m fuel in
+    Demand (Checks sheet c m fuel noneOwn) (λ r. x ≡ ended (Answer.Refused r) tt m) (StoppedBy fuel x)
 
 abbrev pub TaggedClaim : Type 0
 TaggedClaim =
-    (sheet : List ℕ) (m : Memory) (fuel : ℕ) (bytes : List ℕ) (row handler : List ℤ)
-    → TaggedDemand sheet m fuel bytes row handler (tagged sheet bytes row m handler fuel)
+    (sheet : List ℕ) (c : Clearances) (m : Memory) (fuel : ℕ) (bytes : List ℕ) (row handler : List ℤ)
+    → TaggedDemand sheet c m fuel bytes row handler (tagged sheet bytes row c m handler fuel)

@@ -30,17 +30,19 @@ use Rattle.program.proofs.Encoding.{decode-writable}
 use Rattle.program.proofs.Words.{writable-at}
 use Rattle.machine.specs.Rule.{Ruler, rules}
 use Rattle.machine.specs.State.{State, Stop, stopNumber}
+use Rattle.machine.specs.Environment.{Environment}
 use Rattle.machine.specs.Run.{Same}
 use Rattle.machine.specs.Stopped.{CommandAt}
 use Rattle.machine.specs.Holds.{ProgramHas, Each, AtomHas, LabelsInRange, Answers}
 use Rattle.machine.proofs.Holds.{program-signed}
 use Rattle.stack.specs.Words.{started}
 use Rattle.step.specs.Lent.{Cells, cells, lent}
+use Rattle.engine.specs.declared.Clearances.{Clearances}
 use Rattle.engine.specs.declared.Answer.the-variants as Answer
 use Rattle.engine.specs.declared.start.Limit.{Limit}
 use Rattle.engine.specs.declared.start.Limit.the-variants.{Broken, Kept}
 use Rattle.engine.specs.declared.start.Own.{Own}
-use Rattle.engine.specs.Memory.{Memory, memory, room}
+use Rattle.engine.specs.Memory.{Memory, memory, surroundings}
 use Rattle.engine.specs.Layout.{stackWords, cellWords, paired, cellsOf, linesLaid, stackAfter}
 use Rattle.engine.specs.Start.{keptIf, orElse, firstOf, orLabel, labelsLimit, given, noneOwn, limits, within, startDecoded}
 use Rattle.engine.specs.Start.{startOf}
@@ -87,9 +89,9 @@ stored-range (pos n) x e = go (ltb n (2 ^ 32)) refl e
     go true t e = (n, refl, ltb-true n (2 ^ 32) t)
     go false t e = never (cc)
 
-label-kept : (x : Stored) (i : ℕ) (rest : Limit) → orLabel x i rest ≡ Kept → (l : Label) × (x ≡ Of l) × (rest ≡ Kept)
-label-kept (Of l) i rest e = (l, refl, e)
-label-kept Nothing i rest e = never (cc)
+label-kept : (check : ℕ) (x : Stored) (i : ℕ) (rest : Limit) → orLabel check x i rest ≡ Kept → (l : Label) × (x ≡ Of l) × (rest ≡ Kept)
+label-kept check (Of l) i rest e = (l, refl, e)
+label-kept check Nothing i rest e = never (cc)
 
 -- ════════════════════════════════════════════════════════════════════════════════════════════
 -- The cells in the lent words
@@ -109,13 +111,13 @@ held-more v n fits rest =
       range = rw (lowLabel-id n fits) ((tt, fits), rest .range);
     }
 
-cells-held : (values labels : List ℤ) (i : ℕ) → length values ≡ length labels → labelsLimit i labels ≡ Kept → Held (cells values labels)
+cells-held : (values labels : List ℤ) (i : ℕ) → length values ≡ length labels → labelsLimit 5 i labels ≡ Kept → Held (cells values labels)
 unfolding paired labelsLimit
 cells-held [] [] i h e = record { words = refl; range = tt }
 cells-held [] (l ∷ labels) i h e = absurd (omega arith)
 cells-held (v ∷ values) [] i h e = absurd (omega arith)
 cells-held (v ∷ values) (l ∷ labels) i h e =
-    let (x, is, on) = label-kept (stored l) i (labelsLimit (suc i) labels) e in
+    let (x, is, on) = label-kept 5 (stored l) i (labelsLimit 5 (suc i) labels) e in
     let (n, word, fits) = stored-range l x is in
     rw word (held-more v n fits (cells-held values labels (suc i) (omega arith) on))
 
@@ -124,7 +126,7 @@ cells-held (v ∷ values) (l ∷ labels) i h e =
 -- ════════════════════════════════════════════════════════════════════════════════════════════
 
 -- what is known of it
-pub record Fine (sheet : List ℕ) (m : Memory) (fuel : ℕ) (own : Own) (cs : List Command) : Type 0 where
+pub record Fine (sheet : List ℕ) (c : Clearances) (m : Memory) (fuel : ℕ) (own : Own) (cs : List Command) : Type 0 where
   pub decoded : decode sheet ≡ accepted cs
   pub equal : length (m .lent .cells .values) ≡ length (m .lent .cells .labels)
   pub many : length (m .lent .cells .values) ≤ 1024
@@ -136,16 +138,18 @@ pub record Fine (sheet : List ℕ) (m : Memory) (fuel : ℕ) (own : Own) (cs : L
   pub handler : own .handler ≡ Kept
   pub allowance : fuel ≤ 1000000
 
-module _ (sheet : List ℕ) (m : Memory) (fuel : ℕ) (own : Own) where
+module _ (sheet : List ℕ) (c : Clearances) (m : Memory) (fuel : ℕ) (own : Own) where
   abbrev limitsOf : List Command → Own → List Limit
-  limitsOf cs x = limits (length cs) (m .lent .cells .labels) (given m fuel) x
+  limitsOf cs x = limits (length cs) (m .lent .cells .labels) c (given m fuel) x
 
-  limits-fine : (cs : List Command) → decode sheet ≡ accepted cs → firstOf (limitsOf cs own) ≡ Kept → Fine sheet m fuel own cs
+  limits-fine : (cs : List Command) → decode sheet ≡ accepted cs → firstOf (limitsOf cs own) ≡ Kept → Fine sheet c m fuel own cs
   limits-fine cs d e =
       let (equal, a) = all-kept (limitsOf cs own) e in
       let (few, b) = a in
-      let (labels, c) = b in
-      let (rules, d′) = c in
+      let (labels, clear) = b in
+      let (sixteen, sets) = clear in
+      let (words, own) = sets in
+      let (rules, d′) = own in
       let (row, f) = d′ in
       let (program, g) = f in
       let (stack, h) = g in
@@ -164,29 +168,29 @@ module _ (sheet : List ℕ) (m : Memory) (fuel : ℕ) (own : Own) where
       }
 
   abbrev pub answer : Decoded
-  answer = startOf sheet (m .lent .cells .labels) (given m fuel) own
+  answer = startOf sheet (m .lent .cells .labels) c (given m fuel) own
 
   decoded-fine : (d : Decoded) → decode sheet ≡ d → (cs : List Command)
-      → startDecoded d (m .lent .cells .labels) (given m fuel) own ≡ accepted cs → Fine sheet m fuel own cs
+      → startDecoded d (m .lent .cells .labels) c (given m fuel) own ≡ accepted cs → Fine sheet c m fuel own cs
   decoded-fine (refused r) g cs e = never (cc)
   decoded-fine (accepted ds) g cs e = go (firstOf (limitsOf ds own)) refl e
     where
-      go : (x : Limit) → firstOf (limitsOf ds own) ≡ x → within x ds ≡ accepted cs → Fine sheet m fuel own cs
+      go : (x : Limit) → firstOf (limitsOf ds own) ≡ x → within x ds ≡ accepted cs → Fine sheet c m fuel own cs
       go (Broken r) f e = never (cc)
       go Kept f e = let k : ds ≡ cs = cc in rw k at (limits-fine ds g f)
 
-  pub start-fine : (cs : List Command) → answer ≡ accepted cs → Fine sheet m fuel own cs
+  pub start-fine : (cs : List Command) → answer ≡ accepted cs → Fine sheet c m fuel own cs
   unfolding startOf
   start-fine cs e = decoded-fine (decode sheet) refl cs e
 
   -- an engine without limits of its own accepts it too
   pub start-direct : (cs : List Command) → answer ≡ accepted cs
-      → startOf sheet (m .lent .cells .labels) (given m fuel) noneOwn ≡ accepted cs
+      → startOf sheet (m .lent .cells .labels) c (given m fuel) noneOwn ≡ accepted cs
   unfolding startOf
   start-direct cs e = by-sheet (decode sheet) e
     where
-      by-sheet : (d : Decoded) → startDecoded d (m .lent .cells .labels) (given m fuel) own ≡ accepted cs
-          → startDecoded d (m .lent .cells .labels) (given m fuel) noneOwn ≡ accepted cs
+      by-sheet : (d : Decoded) → startDecoded d (m .lent .cells .labels) c (given m fuel) own ≡ accepted cs
+          → startDecoded d (m .lent .cells .labels) c (given m fuel) noneOwn ≡ accepted cs
       by-sheet (refused r) e = e
       by-sheet (accepted ds) e = by-limits (firstOf (limitsOf ds own)) refl e
         where
@@ -195,16 +199,31 @@ module _ (sheet : List ℕ) (m : Memory) (fuel : ℕ) (own : Own) where
           by-limits (Broken r) f e = never (cc)
           by-limits Kept f e =
               let k = all-kept (limitsOf ds own) f in
-              let spaces = k .1 .1 .1 .1 .1 in
-              rw (all-first (limitsOf ds noneOwn)
-              (k .0, (k .1 .0, (k .1 .1 .0, (refl, (refl, (spaces .0, (spaces .1 .0, (refl, spaces .1 .1 .1))))))))) e
+              let clear = k .1 .1 .1 in
+              let spaces = clear .1 .1 .1 .1 in
+              rw (all-first (limitsOf ds noneOwn) (
+                k .0,
+                (
+                  k .1 .0,
+                  (
+                    k .1 .1 .0,
+                    (
+                      clear .0,
+                      (
+                        clear .1 .0,
+                        (refl, (refl, (spaces .0, (spaces .1 .0, (refl, spaces .1 .1 .1))))),
+                      ),
+                    ),
+                  ),
+                ),
+              )) e
 
   -- what is checked is refused, or has so many commands
   pub refused-is : {R : Type 0} (ρ : Ruler R) (u : R) (r : Refusal) → Checked.Refused r ≡ checkAnswer answer
-      → ended (Answer.Refused r) u m ≡ engineOf ρ answer u m fuel
+      → ended (Answer.Refused r) u m ≡ engineOf ρ answer u c m fuel
   refused-is {R} ρ u r e = go answer e
     where
-      go : (d : Decoded) → Checked.Refused r ≡ checkAnswer d → ended (Answer.Refused r) u m ≡ engineOf ρ d u m fuel
+      go : (d : Decoded) → Checked.Refused r ≡ checkAnswer d → ended (Answer.Refused r) u m ≡ engineOf ρ d u c m fuel
       go (refused q) e = let k : r ≡ q = cc in ap (λ x. ended (Answer.Refused x) u m) k
       go (accepted cs) e = never (cc)
 
@@ -216,11 +235,11 @@ module _ (sheet : List ℕ) (m : Memory) (fuel : ℕ) (own : Own) where
       go (accepted cs) e = (cs, refl, cc)
 
   -- its labels are in range
-  pub start-range : (cs : List Command) → Fine sheet m fuel own cs → LabelsInRange (begin m)
+  pub start-range : (cs : List Command) → Fine sheet c m fuel own cs → LabelsInRange (begin m)
   start-range cs fine = record { pc = (tt, omega arith); stack = tt; memory = fine .cells .range; lines = tt }
 
   -- an accepted program has few commands, all of which can be written
-  module _ (bytes : Bytes sheet) (cs : List Command) (fine : Fine sheet m fuel own cs) where
+  module _ (bytes : Bytes sheet) (cs : List Command) (fine : Fine sheet c m fuel own cs) where
     pub few : length cs ≤ commandLimit
     unfolding decode
     few = rw (fine .decoded) at (decode-length commandLimit 0 sheet)
@@ -240,12 +259,15 @@ module _ (sheet : List ℕ) (m : Memory) (fuel : ℕ) (own : Own) where
         branched w (pos i) n at = let h = writable-at cs i (Bnz n) w at in omega arith
         branched w (negsuc i) n at = never (cc)
 
+    abbrev env : Environment
+    env = surroundings c (m .output)
+
     -- the lent words hold the start
     holds : Represents (m .output) (begin m) started (m .lent) (m .output)
     unfolding laid stackWords
     holds = record { machine = refl; stack = refl; cells = fine .cells .words; output = refl }
 
-    sound : Sound (room (m .output)) (m .output) (begin m) (m .lent)
+    sound : Sound env (m .output) (begin m) (m .lent)
     sound =
         record {
           space = fine .stack;
@@ -257,12 +279,12 @@ module _ (sheet : List ℕ) (m : Memory) (fuel : ℕ) (own : Own) where
     -- the loop over the loaded program is the run
     pub loop-whole : {R : Type 0} (ω : WordRuler R) (ρ : Ruler R) → Follows ω ρ → ((u : R) → Answers InRange (rules ρ u)) → (u : R)
         → (count : ℕ) → count ≡ length cs → (program : List ℤ) → program ≡ laid (programWords cs) (m .program)
-        → (d : Done R) → d ≡ loopOf ω count (room (m .output)) program fuel 0 started u (m .lent) (m .output)
-        → ended (Answer.Stopped (d .ran)) (d .ruler) (memory program (d .lent) (d .output)) ≡ stoppedAt ρ cs u m fuel
+        → (d : Done R) → d ≡ loopOf ω count env program fuel 0 started u (m .lent) (m .output)
+        → ended (Answer.Stopped (d .ran)) (d .ruler) (memory program (d .lent) (d .output)) ≡ stoppedAt ρ cs u c m fuel
     loop-whole ω ρ follows answers u count n program p d g =
         let q =
-        g ∙ ap₂ (λ n x. loopOf ω n (room (m .output)) x fuel 0 started u (m .lent) (m .output)) n p
-        ∙ loop-run ω ρ follows answers cs (m .program) (room (m .output)) (m .output) signed fuel (begin m) started u (m .lent)
+        g ∙ ap₂ (λ n x. loopOf ω n env x fuel 0 started u (m .lent) (m .output)) n p
+        ∙ loop-run ω ρ follows answers cs (m .program) env (m .output) signed fuel (begin m) started u (m .lent)
         (m .output) 0
         holds sound refl in
         ap₂ (λ d x. ended (Answer.Stopped (d .ran)) (d .ruler) (memory x (d .lent) (d .output))) q p
@@ -272,12 +294,12 @@ module _ (sheet : List ℕ) (m : Memory) (fuel : ℕ) (own : Own) where
 -- ════════════════════════════════════════════════════════════════════════════════════════════
 
 -- runs that are the same, with the same stack space, end the same
-pub same-end : {Q R : Type 0} (σ : Ruler Q) (ρ : Ruler R) (cs : List Command) (v : Q) (u : R) (m : Memory) (fuel : ℕ)
-    → Same (resultOf σ cs v m fuel) (resultOf ρ cs u m fuel)
-    → stackAfter σ (room (m .output)) cs fuel (begin m) v (m .lent .stack)
-    ≡ stackAfter ρ (room (m .output)) cs fuel (begin m) u (m .lent .stack)
-    → SameEnd (stoppedAt σ cs v m fuel) (stoppedAt ρ cs u m fuel)
-same-end σ ρ cs v u m fuel h stack =
+pub same-end : {Q R : Type 0} (σ : Ruler Q) (ρ : Ruler R) (cs : List Command) (v : Q) (u : R) (c : Clearances) (m : Memory) (fuel : ℕ)
+    → Same (resultOf σ cs v c m fuel) (resultOf ρ cs u c m fuel)
+    → stackAfter σ (surroundings c (m .output)) cs fuel (begin m) v (m .lent .stack)
+    ≡ stackAfter ρ (surroundings c (m .output)) cs fuel (begin m) u (m .lent .stack)
+    → SameEnd (stoppedAt σ cs v c m fuel) (stoppedAt ρ cs u c m fuel)
+same-end σ ρ cs v u c m fuel h stack =
     record {
       answer =
           ap₂ (λ (s : State) (x : Stop). Answer.Stopped (record { machine = machineOf s; stop = stopNumber x; steps = s .steps }))

@@ -11,6 +11,7 @@ use Rattle.program.specs.declared.Command.{Command}
 use Rattle.program.specs.declared.Command.the-variants.{Add, Sub, Pop, Output, Push, Load, Store, Jump, Bnz, Call, Ret, OutputTo}
 use Rattle.program.specs.Command.{opcode, codeOf, operand}
 use Rattle.program.proofs.Codes.{code-residue}
+use Rattle.machine.specs.Environment.{Environment}
 use Rattle.machine.specs.Rule.{Key, Verdict, denied, allowed, Ruler, rules}
 use Rattle.machine.specs.State.{State, denial}
 use Rattle.machine.specs.Step.{Outcome, Request, halt, ask, request, keyOf, decide, consult, execute}
@@ -41,10 +42,10 @@ use Rattle.engine.proofs.Link.Command.{store-looks, jump-looks, bnz-loo
 abbrev Leads : Command → State → Type 0
 Leads c s = (n : ℤ) → c ≡ Bnz n → Signed 64 (s .pc .number +ℤ n)
 
-module _ {room : ℕ} {o₀ : Memory.Output} {s : State} {l : Lent} {o : Memory.Output} (r : Represents o₀ s (machineOf s) l o)
-    (h : Sound room o₀ s l)
+module _ {env : Environment} {o₀ : Memory.Output} {s : State} {l : Lent} {o : Memory.Output} (r : Represents o₀ s (machineOf s) l o)
+    (h : Sound env o₀ s l)
     (on : Signed 64 (s .pc .number +ℤ pos 1)) where
-  command-looks : (c : Command) → Leads c s → Looks c (machineOf s) l room o₀ o (request room c s) (found c (machineOf s) l)
+  command-looks : (c : Command) → Leads c s → Looks c (machineOf s) l env o₀ o (request env c s) (found c (machineOf s) l)
   command-looks Add to = add-looks r h on
   command-looks Sub to = sub-looks r h on
   command-looks Pop to = pop-looks r h on
@@ -66,7 +67,7 @@ module _ {room : ℕ} {o₀ : Memory.Output} {s : State} {l : Lent} {o : Memory.
 abbrev pub Follows : {R : Type 0} → WordRuler R → Ruler R → Type 0
 Follows {R} ω ρ = (u : R) (k : Key) → WellMarked k → ω u (askedFor k) ≡ ρ u k
 
-module _ {R : Type 0} (ω : WordRuler R) (ρ : Ruler R) (follows : Follows ω ρ) (room : ℕ) (o₀ : Memory.Output) (c : Command) (s : State)
+module _ {R : Type 0} (ω : WordRuler R) (ρ : Ruler R) (follows : Follows ω ρ) (env : Environment) (o₀ : Memory.Output) (c : Command) (s : State)
     (u : R)
     (l : Lent) (o : Memory.Output) where
   abbrev m : Machine
@@ -78,18 +79,18 @@ module _ {R : Type 0} (ω : WordRuler R) (ρ : Ruler R) (follows : Follows ω ρ
 
   -- a command on words simulates the machine's, and leaves of the ruler what that leaves
   abbrev Both : Request → Acted R → Type 0
-  Both q a = Simulates room o₀ m l o (consult (rules ρ u) c s q) (a .after) × (a .ruler ≡ askedBy ρ c s u q)
+  Both q a = Simulates env o₀ m l o (consult (rules ρ u) c s q) (a .after) × (a .ruler ≡ askedBy ρ c s u q)
 
   abbrev ruledBy : Verdict → After
   ruledBy v = ruled ω (pos (codeOf (opcode c))) (operand c) m u l v
 
-  verdict-simulates : (k : ℕ → ℕ → Outcome) → ((p r : ℕ) → Simulates room o₀ m l o (k p r) (ruledBy (allowed p r)))
-      → (v : Verdict) → Simulates room o₀ m l o (decide v k) (ruledBy v)
-  verdict-simulates k f denied = stop-simulates room o₀ m l o denial
+  verdict-simulates : (k : ℕ → ℕ → Outcome) → ((p r : ℕ) → Simulates env o₀ m l o (k p r) (ruledBy (allowed p r)))
+      → (v : Verdict) → Simulates env o₀ m l o (decide v k) (ruledBy v)
+  verdict-simulates k f denied = stop-simulates env o₀ m l o denial
   verdict-simulates k f (allowed p r) = f p r
 
-  request-acts : (q : Request) → Asks c s q → (i : Inputs) → Looks c m l room o₀ o q i → Both q (acts i)
-  request-acts (halt x) a i e = rw (e, stop-other x carriedOut (omega arith)) (stop-simulates room o₀ m l o x, refl)
+  request-acts : (q : Request) → Asks c s q → (i : Inputs) → Looks c m l env o₀ o q i → Both q (acts i)
+  request-acts (halt x) a i e = rw (e, stop-other x carriedOut (omega arith)) (stop-simulates env o₀ m l o x, refl)
   request-acts (ask l1 l2 l3 k) (marked, roomy) i (e, f) =
       let same : ruling ω (pos (codeOf (opcode c))) (operand c) m u l (finding l1 l2 l3) ≡ ρ u (keyOf c s l1 l2 l3) =
       follows u (keyOf c s l1 l2 l3) marked in
@@ -98,12 +99,12 @@ module _ {R : Type 0} (ω : WordRuler R) (ρ : Ruler R) (follows : Follows ω ρ
         refl,
       )
 
-  pub act-both : Represents o₀ s m l o → Sound room o₀ s l → (cs : List Command) → ProgramHas (Signed 64) cs
+  pub act-both : Represents o₀ s m l o → Sound env o₀ s l → (cs : List Command) → ProgramHas (Signed 64) cs
       → CommandAt cs (s .pc .number) c
       → let a : Acted R = actOf ω (pos (codeOf (opcode c))) (operand c) m u l in
-      Simulates room o₀ m l o (execute (rules ρ u) room c s) (a .after) × (a .ruler ≡ askedBy ρ c s u (request room c s))
+      Simulates env o₀ m l o (execute (rules ρ u) env c s) (a .after) × (a .ruler ≡ askedBy ρ c s u (request env c s))
   unfolding actOf execute
   act-both r h cs has at =
       let looks = command-looks r h (has .following (s .pc .number) c at) c (λ n e. has .branched (s .pc .number) n (rw e at at)) in
-      request-acts (request room c s) (request-asks room s (h .labels) c) (findOf (residue 64 (pos (codeOf (opcode c)))) m l)
+      request-acts (request env c s) (request-asks env s (h .labels) c) (findOf (residue 64 (pos (codeOf (opcode c)))) m l)
       (rw (code-residue (opcode c)) looks)

@@ -10,6 +10,7 @@ use lib.ListN.{length}
 use borrow.Author.Tests.{eq-eqb, ne-eqb}
 use Rattle.word.specs.declared.number.Index.the-variants.{At, Outside}
 use Rattle.word.specs.Number.{indexOf}
+use Rattle.machine.specs.Environment.{Environment}
 use Rattle.stack.specs.declared.Machine.{Machine}
 use Rattle.stack.specs.Words.{started, carriedOut}
 use Rattle.step.specs.Lent.{Lent}
@@ -57,28 +58,28 @@ same-lines {l = l} n m k p s =
 -- What is left to run
 -- ════════════════════════════════════════════════════════════════════════════════════════════
 
-module _ {R : Type 0} (ω : WordRuler R) (count room fuel : ℕ) (program : List ℤ) (u₀ : R) (l₀ : Lent) (o₀ : Output) where
+module _ {R : Type 0} (ω : WordRuler R) (count : ℕ) (env : Environment) (fuel : ℕ) (program : List ℤ) (u₀ : R) (l₀ : Lent) (o₀ : Output) where
   abbrev whole : Done R
-  whole = loopOf ω count room program fuel 0 started u₀ l₀ o₀
+  whole = loopOf ω count env program fuel 0 started u₀ l₀ o₀
 
   -- from the head of the loop, after so many steps
   pub record Going (m : Machine) (u : R) (l : Lent) (o : Output) (steps : ℕ) : Type 0 where
     pub few : steps ≤ fuel
-    pub left : loopOf ω count room program (fuel - steps) steps m u l o ≡ whole
+    pub left : loopOf ω count env program (fuel - steps) steps m u l o ≡ whole
 
   -- from a command
   pub record Acting (word operand : ℤ) (m : Machine) (u : R) (l : Lent) (o : Output) (steps : ℕ) : Type 0 where
     pub below : steps < fuel
-    pub left : onward room (actOf ω word operand m u l) m o steps
-        (λ m′ u′ l′ o′. loopOf ω count room program (fuel - (steps + 1)) (steps + 1) m′ u′ l′ o′) ≡ whole
+    pub left : onward env (actOf ω word operand m u l) m o steps
+        (λ m′ u′ l′ o′. loopOf ω count env program (fuel - (steps + 1)) (steps + 1) m′ u′ l′ o′) ≡ whole
 
   pub going-start : Going started u₀ l₀ o₀ 0
-  going-start = record { few = omega arith; left = ap (λ n. loopOf ω count room program n 0 started u₀ l₀ o₀) (sub-zero fuel) }
+  going-start = record { few = omega arith; left = ap (λ n. loopOf ω count env program n 0 started u₀ l₀ o₀) (sub-zero fuel) }
 
   -- the command leaves a, and with its line written w and o′
   module _ (word operand : ℤ) (m : Machine) (u : R) (l : Lent) (o : Output) (steps : ℕ) (g : Acting word operand m u l o steps)
       (a : Acted R) (d : a ≡ actOf ω word operand m u l)
-      (w : Went) (o′ : Output) (f : emitted w o′ ≡ emitOf room m (a .after .stepped) o) where
+      (w : Went) (o′ : Output) (f : emitted w o′ ≡ emitOf env m (a .after .stepped) o) where
     pub going-stopped : (w .stop ≡ carriedOut → ⊥) → done (ran (w .machine) (w .stop) steps) (a .ruler) (a .after .lent) o′ ≡ whole
     going-stopped h = rw (← d, ← f, ne-eqb (w .stop) carriedOut h) at (g .left)
 
@@ -91,22 +92,22 @@ module _ {R : Type 0} (ω : WordRuler R) (count room fuel : ℕ) (program : List
       abbrev ending : Done R
       ending = done (ran (w .machine) (w .stop) steps) u l o′
 
-      pub going-end : emitted w o′ ≡ endOr count room m 1 o → fuel ≤ steps → ending ≡ whole
+      pub going-end : emitted w o′ ≡ endOr count env m 1 o → fuel ≤ steps → ending ≡ whole
       unfolding loopOf
       going-end e h =
           let z : fuel - steps ≡ 0 = omega arith in
-          ap (λ x. halted x u l steps) e ∙ sym (ap (λ n. loopOf ω count room program n steps m u l o) z) ∙ g .left
+          ap (λ x. halted x u l steps) e ∙ sym (ap (λ n. loopOf ω count env program n steps m u l o) z) ∙ g .left
 
     module _ (h : steps < fuel) where
       -- one step more
-      one : atPlace ω count room program (indexOf (m .pc .0) count) steps m u l o
-          (λ m′ u′ l′ o′. loopOf ω count room program (fuel - (steps + 1)) (steps + 1) m′ u′ l′ o′) ≡ whole
+      one : atPlace ω count env program (indexOf (m .pc .0) count) steps m u l o
+          (λ m′ u′ l′ o′. loopOf ω count env program (fuel - (steps + 1)) (steps + 1) m′ u′ l′ o′) ≡ whole
       unfolding loopOf
       one =
           let z : fuel - steps ≡ suc (fuel - (steps + 1)) = omega arith in
-          sym (ap (λ n. loopOf ω count room program n steps m u l o) z) ∙ g .left
+          sym (ap (λ n. loopOf ω count env program n steps m u l o) z) ∙ g .left
 
-      pub going-outside : (w : Went) (o′ : Output) → emitted w o′ ≡ endOr count room m 2 o → indexOf (m .pc .0) count ≡ Outside
+      pub going-outside : (w : Went) (o′ : Output) → emitted w o′ ≡ endOr count env m 2 o → indexOf (m .pc .0) count ≡ Outside
           → ending w o′ ≡ whole
       going-outside w o′ f e = ap (λ x. halted x u l steps) f ∙ (rw e at one)
 

@@ -1,5 +1,6 @@
 pub mod Limits
 pub mod Link
+pub mod Clearing
 pub mod Act
 pub mod Whole
 pub mod Accepted

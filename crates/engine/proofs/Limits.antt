@@ -18,6 +18,7 @@ use Rattle.program.specs.declared.Refusal.{Refusal}
 use Rattle.program.specs.declared.Checked.{Checked}
 use Rattle.program.specs.declared.Checked.the-variants as Checked
 use Rattle.program.specs.Decode.{Decoded, refused, accepted, refusal, checkAnswer}
+use Rattle.engine.specs.declared.Clearances.{Clearances}
 use Rattle.engine.specs.declared.start.Limit.{Limit}
 use Rattle.engine.specs.declared.start.Limit.the-variants.{Broken, Kept}
 use Rattle.engine.specs.declared.start.Given.{Given}
@@ -41,46 +42,46 @@ limitAnswer (Broken r) n = Checked.Refused r
 limitAnswer Kept n = Checked.Accepted n
 
 -- the labels from i on, of which those before are labels
-pub record Labelled (labels : List ℤ) (i : ℕ) : Type 0 where
+pub record Labelled (check : ℕ) (labels : List ℤ) (i : ℕ) : Type 0 where
   pub within : i ≤ length labels
-  pub left : labelsLimit i (drop i labels) ≡ labelsLimit 0 labels
+  pub left : labelsLimit check i (drop i labels) ≡ labelsLimit check 0 labels
 
-pub labelled-start : (labels : List ℤ) → Labelled labels 0
-labelled-start labels = record { within = omega arith; left = refl }
+pub labelled-start : (check : ℕ) (labels : List ℤ) → Labelled check labels 0
+labelled-start check labels = record { within = omega arith; left = refl }
 
-module _ (labels : List ℤ) (i : ℕ) (l : Labelled labels i) where
-  pub labelled-end : length labels ≤ i → Kept ≡ labelsLimit 0 labels
+module _ (check : ℕ) (labels : List ℤ) (i : ℕ) (l : Labelled check labels i) where
+  pub labelled-end : length labels ≤ i → Kept ≡ labelsLimit check 0 labels
   unfolding labelsLimit
-  labelled-end h = sym (ap (labelsLimit i) (drop-of-length-le labels h)) ∙ l .left
+  labelled-end h = sym (ap (labelsLimit check i) (drop-of-length-le labels h)) ∙ l .left
 
   module _ (h : i < length labels) where
-    here : orLabel (stored (getD labels i (pos 0))) i (labelsLimit (suc i) (drop (suc i) labels)) ≡ labelsLimit 0 labels
+    here : orLabel check (stored (getD labels i (pos 0))) i (labelsLimit check (suc i) (drop (suc i) labels)) ≡ labelsLimit check 0 labels
     unfolding labelsLimit
-    here = sym (ap (labelsLimit i) (drop-cons labels i (pos 0) h)) ∙ l .left
+    here = sym (ap (labelsLimit check i) (drop-cons labels i (pos 0) h)) ∙ l .left
 
-    pub labelled-broken : stored (getD labels i (pos 0)) ≡ Nothing → Broken (refusal 5 i) ≡ labelsLimit 0 labels
+    pub labelled-broken : stored (getD labels i (pos 0)) ≡ Nothing → Broken (refusal check i) ≡ labelsLimit check 0 labels
     labelled-broken e = rw e at here
 
-    pub labelled-next : (x : Label) → stored (getD labels i (pos 0)) ≡ Of x → Labelled labels (i + 1)
+    pub labelled-next : (x : Label) → stored (getD labels i (pos 0)) ≡ Of x → Labelled check labels (i + 1)
     labelled-next x e = record { within = omega arith; left = rw (add-one i) (rw e at here) }
 
 -- ════════════════════════════════════════════════════════════════════════════════════════════
 -- The answer, from the sheet's and from the first broken limit
 -- ════════════════════════════════════════════════════════════════════════════════════════════
 
-module _ (d : Decoded) (labels : List ℤ) (g : Given) (own : Own) where
+module _ (d : Decoded) (labels : List ℤ) (clear : Clearances) (g : Given) (own : Own) where
   abbrev answered : Checked
-  answered = checkAnswer (startDecoded d labels g own)
+  answered = checkAnswer (startDecoded d labels clear g own)
 
   pub start-refused : (r : Refusal) → Checked.Refused r ≡ checkAnswer d → Checked.Refused r ≡ answered
   start-refused r e = go d e
     where
-      go : (d : Decoded) → Checked.Refused r ≡ checkAnswer d → Checked.Refused r ≡ checkAnswer (startDecoded d labels g own)
+      go : (d : Decoded) → Checked.Refused r ≡ checkAnswer d → Checked.Refused r ≡ checkAnswer (startDecoded d labels clear g own)
       go (refused q) e = e
       go (accepted cs) e = never (cc)
 
   -- of a sheet of n commands
-  pub start-limited : (n : ℕ) → Checked.Accepted n ≡ checkAnswer d → (x : Limit) → x ≡ firstOf (limits n labels g own)
+  pub start-limited : (n : ℕ) → Checked.Accepted n ≡ checkAnswer d → (x : Limit) → x ≡ firstOf (limits n labels clear g own)
       → limitAnswer x n ≡ answered
   start-limited n e x l = go d e
     where
@@ -88,8 +89,8 @@ module _ (d : Decoded) (labels : List ℤ) (g : Given) (own : Own) where
       by (Broken r) cs k = refl
       by Kept cs k = ap Checked.Accepted k
 
-      go : (d : Decoded) → Checked.Accepted n ≡ checkAnswer d → limitAnswer x n ≡ checkAnswer (startDecoded d labels g own)
+      go : (d : Decoded) → Checked.Accepted n ≡ checkAnswer d → limitAnswer x n ≡ checkAnswer (startDecoded d labels clear g own)
       go (refused q) e = never (cc)
       go (accepted cs) e =
           let k : n ≡ length cs = cc in
-          by x cs k ∙ ap (λ x. checkAnswer (within x cs)) (l ∙ ap (λ n. firstOf (limits n labels g own)) k)
+          by x cs k ∙ ap (λ x. checkAnswer (within x cs)) (l ∙ ap (λ n. firstOf (limits n labels clear g own)) k)

@@ -19,6 +19,7 @@ use Rattle.program.specs.declared.Command.{Command}
 use Rattle.program.specs.declared.Refusal.{Refusal}
 use Rattle.machine.specs.Rule.{Ruler}
 use Rattle.engine.specs.declared.Answer.the-variants as Answer
+use Rattle.engine.specs.declared.Clearances.{Clearances}
 use Rattle.engine.specs.declared.start.Limit.{Limit}
 use Rattle.engine.specs.declared.start.Limit.the-variants.{Broken, Kept}
 use Rattle.engine.specs.declared.start.Given.{Given}
@@ -78,14 +79,15 @@ first-of [] none = kept
 first-of (Broken r ∷ ls) (also h more) = h
 first-of (Kept ∷ ls) (also h more) = first-of ls more
 
-labels-numbered : (i : ℕ) (labels : List ℤ) → LimitNumbered (labelsLimit i labels)
+labels-numbered : (check i : ℕ) (labels : List ℤ) → 1 ≤ check → LimitNumbered (labelsLimit check i labels)
 unfolding labelsLimit
-labels-numbered i [] = kept
-labels-numbered i (w ∷ labels) = by (stored w) (labels-numbered (suc i) labels)
+labels-numbered check i [] h = kept
+labels-numbered check i (w ∷ labels) h = by (stored w) (labels-numbered check (suc i) labels h)
   where
-    by : (x : Stored) → LimitNumbered (labelsLimit (suc i) labels) → LimitNumbered (orLabel x i (labelsLimit (suc i) labels))
-    by (Of l) h = h
-    by Nothing h = broken {r = refusal 5 i} (omega arith)
+    by : (x : Stored) → LimitNumbered (labelsLimit check (suc i) labels)
+        → LimitNumbered (orLabel check x i (labelsLimit check (suc i) labels))
+    by (Of l) more = more
+    by Nothing more = broken {r = refusal check i} h
 
 -- an engine's own
 pub record OwnNumbered (own : Own) : Type 0 where
@@ -93,21 +95,23 @@ pub record OwnNumbered (own : Own) : Type 0 where
   pub row : LimitNumbered (own .row)
   pub handler : LimitNumbered (own .handler)
 
-module _ (labels : List ℤ) (g : Given) (own : Own) (numbered : OwnNumbered own) where
-  limits-numbered : (count : ℕ) → LimitNumbered (firstOf (limits count labels g own))
+module _ (labels : List ℤ) (c : Clearances) (g : Given) (own : Own) (numbered : OwnNumbered own) where
+  limits-numbered : (count : ℕ) → LimitNumbered (firstOf (limits count labels c g own))
   limits-numbered count =
-      first-of (limits count labels g own)
+      first-of (limits count labels c g own)
       (also (kept-numbered (eqb (g .values) (length labels)) 4 (min (g .values) (length labels)) (omega arith))
       (also (kept-numbered (leb (g .values) 1024) 4 1024 (omega arith))
-      (also (labels-numbered 0 labels)
+      (also (labels-numbered 5 0 labels (omega arith))
+      (also (kept-numbered (eqb (c .count) 16) 13 16 (omega arith))
+      (also (labels-numbered 13 0 (c .words) (omega arith))
       (also (numbered .rules)
       (also (numbered .row)
       (also (kept-numbered (leb (2 * count) (g .program)) 8 1 (omega arith))
       (also (kept-numbered (leb 768 (g .stack)) 8 2 (omega arith))
       (also (numbered .handler)
-      (also (kept-numbered (leb (g .fuel) 1000000) 9 0 (omega arith)) none)))))))))
+      (also (kept-numbered (leb (g .fuel) 1000000) 9 0 (omega arith)) none)))))))))))
 
-  pub start-numbered : (sheet : List ℕ) → Numbered (startOf sheet labels g own)
+  pub start-numbered : (sheet : List ℕ) → Numbered (startOf sheet labels c g own)
   unfolding startOf decode
   start-numbered sheet = by (decode sheet) (decode-numbered commandLimit 0 sheet)
     where
@@ -115,12 +119,12 @@ module _ (labels : List ℤ) (g : Given) (own : Own) (numbered : OwnNumbered own
       limited (Broken r) cs (broken h) = h
       limited Kept cs h = tt
 
-      by : (d : Decoded) → Numbered d → Numbered (startDecoded d labels g own)
+      by : (d : Decoded) → Numbered d → Numbered (startDecoded d labels c g own)
       by (refused r) h = h
       by (accepted cs) h = limited _ cs (limits-numbered (length cs))
 
 -- so has what an engine refuses
-pub answer-numbered : {R : Type 0} (ρ : Ruler R) (d : Decoded) (u : R) (m : Memory) (fuel : ℕ) → Numbered d
-    → (q : Refusal) → engineOf ρ d u m fuel .answer ≡ Answer.Refused q → 1 ≤ q .code
-answer-numbered ρ (refused r) u m fuel h q e = let same : r ≡ q = cc in rw same at h
-answer-numbered ρ (accepted cs) u m fuel h q e = never (cc)
+pub answer-numbered : {R : Type 0} (ρ : Ruler R) (d : Decoded) (u : R) (c : Clearances) (m : Memory) (fuel : ℕ) → Numbered d
+    → (q : Refusal) → engineOf ρ d u c m fuel .answer ≡ Answer.Refused q → 1 ≤ q .code
+answer-numbered ρ (refused r) u c m fuel h q e = let same : r ≡ q = cc in rw same at h
+answer-numbered ρ (accepted cs) u c m fuel h q e = never (cc)

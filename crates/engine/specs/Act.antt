@@ -1,15 +1,18 @@
 -- One command on lent words: what it finds, what a ruler says of it, what it does; then its line, and the end line.
 use Prim.Native.Nat.{ℕ}
 use mathlib.Core.Bool.{Bool, false}
+use mathlib.Core.Option.{Option, none, some}
 use lib.IntN.{ℤ, pos}
 use lib.ListN.{set}
-use lib.Dec.{ltb, eqb}
+use lib.Dec.{eqb}
 use Rattle.word.specs.Choose.{choose}
 use Rattle.word.specs.Wrap.{residue}
 use Rattle.word.specs.declared.number.Natural.{Natural}
 use Rattle.word.specs.declared.number.Natural.the-variants.{Of, Negative}
 use Rattle.word.specs.Number.{naturalOf}
 use Rattle.machine.specs.Atom.{Line, numberLine, endLine}
+use Rattle.machine.specs.State.{Stop, stopNumber}
+use Rattle.machine.specs.Environment.{Environment, barrier}
 use Rattle.machine.specs.Rule.{Verdict, denied, allowed, Ruling}
 use Rattle.stack.specs.declared.Machine.{Machine}
 use Rattle.stack.specs.declared.Stepped.{Stepped}
@@ -76,18 +79,19 @@ lineAt i x o =
     (set (o .kinds) i (kindWord (x .kind)))
     (set (o .pages) i (x .page))
 
--- a line is written after those that are, where there is room, and then the run stands at w; without, it is stopped and nothing changes
-unfoldable pub writeOf : (room : ℕ) → Machine → Line → Went → Output → Emitted
-writeOf room m x w o =
-    choose (ltb (m .lines) room)
-    (emitted (went (printed (w .machine) room) (w .stop)) (lineAt (m .lines) x o))
-    (emitted (went m 8) o)
+-- a line that nothing holds back is written after those that are, and then the run stands at w; else it is stopped and nothing changes
+abbrev pub writtenUnless : Option Stop → Environment → Machine → Line → Went → Output → Emitted
+writtenUnless none env m x w o = emitted (went (printed (w .machine) (env .room)) (w .stop)) (lineAt (m .lines) x o)
+writtenUnless (some stop) env m x w o = emitted (went m (stopNumber stop)) o
+
+unfoldable pub writeOf : Environment → Machine → Line → Went → Output → Emitted
+writeOf env m x w o = writtenUnless (barrier env (m .lines) x) env m x w o
 
 -- the line that a command hands back
-unfoldable pub emitOf : (room : ℕ) → Machine → Stepped → Output → Emitted
-emitOf room m r o =
+unfoldable pub emitOf : Environment → Machine → Stepped → Output → Emitted
+emitOf env m r o =
     choose (eqb (r .stop) prints)
-    (writeOf room m (numberLine (r .page) (r .number) (r .label .0)) (went (r .machine) carriedOut) o)
+    (writeOf env m (numberLine (r .page) (r .number) (r .label .0)) (went (r .machine) carriedOut) o)
     (emitted (went (r .machine) (r .stop)) o)
 
 -- at the end of the program the end line and stop 0, else another stop
@@ -95,8 +99,8 @@ abbrev pub isCount : Natural → ℕ → Bool
 isCount (Of n) count = eqb n count
 isCount Negative count = false
 
-unfoldable pub endOr : (count room : ℕ) → Machine → (other : ℕ) → Output → Emitted
-endOr count room m other o =
+unfoldable pub endOr : (count : ℕ) → Environment → Machine → (other : ℕ) → Output → Emitted
+endOr count env m other o =
     choose (isCount (naturalOf (m .pc .0)) count)
-    (writeOf room m (endLine (m .label .0)) (went m 0) o)
+    (writeOf env m (endLine (m .label .0)) (went m 0) o)
     (emitted (went m other) o)

@@ -13,10 +13,11 @@ use Rattle.machine.specs.Run.{Result, run}
 use Rattle.stack.specs.declared.Machine.{Machine}
 use Rattle.stack.specs.Words.{machine}
 use Rattle.step.specs.Lent.{lent}
+use Rattle.engine.specs.declared.Clearances.{Clearances}
 use Rattle.engine.specs.declared.Ran.{Ran}
 use Rattle.engine.specs.declared.Answer.{Answer}
 use Rattle.engine.specs.declared.Answer.the-variants as Answer
-use Rattle.engine.specs.Memory.{Memory, memory, room}
+use Rattle.engine.specs.Memory.{Memory, memory, surroundings}
 use Rattle.engine.specs.Start.{given, noneOwn, startOf}
 use Rattle.engine.specs.Layout.{cellWords, cellsOf, linesLaid, stackAfter}
 
@@ -41,16 +42,16 @@ summary r = record { machine = machineOf (r .state); stop = stopNumber (r .stop)
 abbrev pub begin : Memory → State
 begin m = start (cellsOf (m .lent .cells))
 
-module _ {R : Type 0} (ρ : Ruler R) (cs : List Command) (u : R) (m : Memory) (fuel : ℕ) where
+module _ {R : Type 0} (ρ : Ruler R) (cs : List Command) (u : R) (c : Clearances) (m : Memory) (fuel : ℕ) where
   abbrev pub resultOf : Result R
-  resultOf = run ρ (room (m .output)) cs fuel (begin m) u
+  resultOf = run ρ (surroundings c (m .output)) cs fuel (begin m) u
 
   -- the lent runs after it
   abbrev pub left : State → Memory
   left s =
       memory
       (laid (programWords cs) (m .program))
-      (lent (stackAfter ρ (room (m .output)) cs fuel (begin m) u (m .lent .stack)) (cellWords (s .memory)))
+      (lent (stackAfter ρ (surroundings c (m .output)) cs fuel (begin m) u (m .lent .stack)) (cellWords (s .memory)))
       (linesLaid (s .lines) (m .output))
 
   -- the run to its stop
@@ -58,13 +59,13 @@ module _ {R : Type 0} (ρ : Ruler R) (cs : List Command) (u : R) (m : Memory) (f
   stoppedAt = ended (Answer.Stopped (summary resultOf)) (resultOf .ruler) (left (resultOf .state))
 
 -- by what the start came to: refused, with every lent run and what the ruler keeps as they came; otherwise the run to its stop
-abbrev pub engineOf : {R : Type 0} → Ruler R → Decoded → R → Memory → ℕ → Ended R
-engineOf ρ (refused r) u m fuel = ended (Answer.Refused r) u m
-engineOf ρ (accepted cs) u m fuel = stoppedAt ρ cs u m fuel
+abbrev pub engineOf : {R : Type 0} → Ruler R → Decoded → R → Clearances → Memory → ℕ → Ended R
+engineOf ρ (refused r) u c m fuel = ended (Answer.Refused r) u m
+engineOf ρ (accepted cs) u c m fuel = stoppedAt ρ cs u c m fuel
 
--- rules that do not change, and no limits of its own: of the sheet, the lent runs and the allowance
-abbrev pub directly : Policy → List ℕ → Memory → ℕ → Ended Unit
-directly π sheet m fuel = engineOf (fixed π) (startOf sheet (m .lent .cells .labels) (given m fuel) noneOwn) tt m fuel
+-- rules that do not change, and no limits of its own: of the sheet, the clearances, the lent runs and the allowance
+abbrev pub directly : Policy → List ℕ → Clearances → Memory → ℕ → Ended Unit
+directly π sheet c m fuel = engineOf (fixed π) (startOf sheet (m .lent .cells .labels) c (given m fuel) noneOwn) tt c m fuel
 
 -- two engines, each with a ruler of its own, gave the same answer and left the same in every lent run
 pub record SameEnd {Q R : Type 0} (q : Ended Q) (r : Ended R) : Type 0 where

@@ -13,6 +13,7 @@ use Rattle.machine.specs.declared.Kind.the-variants.{Number, End}
 use Rattle.machine.specs.Atom.{Atom, Entry, value, frame, Line}
 use Rattle.machine.specs.Rule.{Ruler}
 use Rattle.machine.specs.State.{State}
+use Rattle.machine.specs.Environment.{Environment}
 use Rattle.machine.specs.Run.{along}
 use Rattle.step.specs.Lent.{Cells, cells}
 use Rattle.engine.specs.declared.Line as Code
@@ -96,5 +97,5 @@ linesOf n o = take n (paired lineOf (paired (λ a w. (a, w)) (paired atomOf (o .
 abbrev pub stackLaid : State → List ℤ → List ℤ
 stackLaid t space = laid (stackWords (t .stack)) space
 
-abbrev pub stackAfter : {R : Type 0} → Ruler R → ℕ → List Command → ℕ → State → R → List ℤ → List ℤ
-stackAfter ρ room cs fuel s u space = along ρ room cs stackLaid fuel s u space
+abbrev pub stackAfter : {R : Type 0} → Ruler R → Environment → List Command → ℕ → State → R → List ℤ → List ℤ
+stackAfter ρ env cs fuel s u space = along ρ env cs stackLaid fuel s u space

@@ -8,6 +8,7 @@ use Rattle.word.specs.Choose.{choose}
 use Rattle.word.specs.declared.number.Index.{Index}
 use Rattle.word.specs.declared.number.Index.the-variants.{At, Outside}
 use Rattle.word.specs.Number.{indexOf}
+use Rattle.machine.specs.Environment.{Environment}
 use Rattle.stack.specs.declared.Machine.{Machine}
 use Rattle.stack.specs.Words.{carriedOut}
 use Rattle.step.specs.Lent.{Lent}
@@ -43,16 +44,16 @@ halted e u l steps = done (ran (e .went .machine) (e .went .stop) steps) u l (e 
 abbrev pub goOn : {R : Type 0} → Emitted → R → Lent → ℕ → (Machine → R → Lent → Output → Done R) → Done R
 goOn e u l steps go = choose (eqb (e .went .stop) carriedOut) (go (e .went .machine) u l (e .output)) (halted e u l steps)
 
-abbrev pub onward : {R : Type 0} → (room : ℕ) → Acted R → Machine → Output → ℕ → (Machine → R → Lent → Output → Done R) → Done R
-onward room a m o steps go = goOn (emitOf room m (a .after .stepped) o) (a .ruler) (a .after .lent) steps go
+abbrev pub onward : {R : Type 0} → Environment → Acted R → Machine → Output → ℕ → (Machine → R → Lent → Output → Done R) → Done R
+onward env a m o steps go = goOn (emitOf env m (a .after .stepped) o) (a .ruler) (a .after .lent) steps go
 
-module _ {R : Type 0} (ρ : WordRuler R) (count room : ℕ) (program : List ℤ) where
+module _ {R : Type 0} (ρ : WordRuler R) (count : ℕ) (env : Environment) (program : List ℤ) where
   abbrev pub atPlace : Index → ℕ → Machine → R → Lent → Output → (Machine → R → Lent → Output → Done R) → Done R
-  atPlace Outside steps m u l o go = halted (endOr count room m 2 o) u l steps
-  atPlace (At i) steps m u l o go = onward room (actOf ρ (wordAt program i) (operandAt program i) m u l) m o steps go
+  atPlace Outside steps m u l o go = halted (endOr count env m 2 o) u l steps
+  atPlace (At i) steps m u l o go = onward env (actOf ρ (wordAt program i) (operandAt program i) m u l) m o steps go
 
   -- `fuel` more steps, after `steps`
   unfoldable pub loopOf : ℕ → ℕ → Machine → R → Lent → Output → Done R
-  loopOf zero steps m u l o = halted (endOr count room m 1 o) u l steps
+  loopOf zero steps m u l o = halted (endOr count env m 1 o) u l steps
   loopOf (suc fuel) steps m u l o =
       atPlace (indexOf (m .pc .0) count) steps m u l o (λ m′ u′ l′ o′. loopOf fuel (steps + 1) m′ u′ l′ o′)

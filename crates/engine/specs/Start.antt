@@ -11,6 +11,7 @@ use Rattle.label.specs.Word.{stored}
 use Rattle.program.specs.declared.Command.{Command}
 use Rattle.program.specs.declared.Refusal.{Refusal}
 use Rattle.program.specs.Decode.{Decoded, refused, accepted, refusal, decode}
+use Rattle.engine.specs.declared.Clearances.{Clearances}
 use Rattle.engine.specs.declared.start.Limit.{Limit}
 use Rattle.engine.specs.declared.start.Limit.the-variants.{Broken, Kept}
 use Rattle.engine.specs.declared.start.Given.{Given}
@@ -31,14 +32,14 @@ abbrev pub firstOf : List Limit → Limit
 firstOf [] = Kept
 firstOf (l ∷ ls) = orElse l (firstOf ls)
 
--- check 5 from cell i on: a label word outside 0 to 2^32 − 1, the first such cell
-abbrev pub orLabel : Stored → ℕ → Limit → Limit
-orLabel (Of l) i rest = rest
-orLabel Nothing i rest = Broken (refusal 5 i)
+-- checks 5 and 13, by their number, from the cell or the page i on: a word outside 0 to 2^32 − 1, the first such
+abbrev pub orLabel : (check : ℕ) → Stored → ℕ → Limit → Limit
+orLabel check (Of l) i rest = rest
+orLabel check Nothing i rest = Broken (refusal check i)
 
-unfoldable pub labelsLimit : ℕ → List ℤ → Limit
-labelsLimit i [] = Kept
-labelsLimit i (w ∷ labels) = orLabel (stored w) i (labelsLimit (suc i) labels)
+unfoldable pub labelsLimit : (check : ℕ) → ℕ → List ℤ → Limit
+labelsLimit check i [] = Kept
+labelsLimit check i (w ∷ words) = orLabel check (stored w) i (labelsLimit check (suc i) words)
 
 -- the lengths and the allowance that were given, with the label words of the cells
 abbrev pub given : Memory → ℕ → Given
@@ -55,13 +56,16 @@ abbrev pub noneOwn : Own
 noneOwn = record { rules = Kept; row = Kept; handler = Kept }
 
 -- after the sheet's, of a sheet of so many commands
-abbrev pub limits : (count : ℕ) → List ℤ → Given → Own → List Limit
-limits count labels g own =
+abbrev pub limits : (count : ℕ) → List ℤ → Clearances → Given → Own → List Limit
+limits count labels c g own =
     -- 4: the runs of the cells differ in length (place: the shorter length), else over 1,024
     keptIf (eqb (g .values) (length labels)) (refusal 4 (min (g .values) (length labels)))
     ∷ keptIf (leb (g .values) 1024) (refusal 4 1024)
     -- 5: a label word
-    ∷ labelsLimit 0 labels
+    ∷ labelsLimit 5 0 labels
+    -- 13: the clearances are not sixteen words, else a word
+    ∷ keptIf (eqb (c .count) 16) (refusal 13 16)
+    ∷ labelsLimit 13 0 (c .words)
     -- 6 and 7: the rules, the rule memory
     ∷ own .rules
     ∷ own .row
@@ -77,11 +81,11 @@ abbrev pub within : Limit → List Command → Decoded
 within (Broken r) cs = refused r
 within Kept cs = accepted cs
 
--- the sheet first, checks 1 to 3, then the rest
-abbrev pub startDecoded : Decoded → List ℤ → Given → Own → Decoded
-startDecoded (refused r) labels g own = refused r
-startDecoded (accepted cs) labels g own = within (firstOf (limits (length cs) labels g own)) cs
+-- the sheet first, checks 1 to 3 and 12, then the rest
+abbrev pub startDecoded : Decoded → List ℤ → Clearances → Given → Own → Decoded
+startDecoded (refused r) labels c g own = refused r
+startDecoded (accepted cs) labels c g own = within (firstOf (limits (length cs) labels c g own)) cs
 
 -- the program's commands, or the first refusal that applies
-unfoldable pub startOf : List ℕ → List ℤ → Given → Own → Decoded
-startOf sheet labels g own = startDecoded (decode sheet) labels g own
+unfoldable pub startOf : List ℕ → List ℤ → Clearances → Given → Own → Decoded
+startOf sheet labels c g own = startDecoded (decode sheet) labels c g own

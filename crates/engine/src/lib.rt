@@ -9,11 +9,12 @@ use stack::CARRIED;
 use stack::Machine;
 use stack::PRINTS;
 use stack::Stepped;
+use word::number::Index;
 use word::number::Natural;
 ghost use mathlib.Core.Path.{_≡_};
 ghost use Prim.Native.Nat.{min};
 ghost use Rattle.word.specs.Number.{naturalOf};
-ghost use Rattle.engine.specs.Memory.{output};
+ghost use Rattle.engine.specs.Memory.{output, clearanceOf, environment, allCleared};
 ghost use Rattle.engine.specs.Layout.{kindWord, kindOf, lineIn, lineFrom};
 ghost use Rattle.engine.specs.Act.{emitted, writeOf, emitOf, isCount, endOr};
 
@@ -22,6 +23,25 @@ pub struct Ran {
     pub machine: Machine,
     pub stop: u64,
     pub steps: u64,
+}
+
+// Request U5: each page's clearance, a set of owners, as sixteen words, page 0's first; and how many words were given, since from outside
+// it may be another number, which check 13 refuses.
+pub struct Clearances {
+    pub words: [i64; 16],
+    pub count: usize,
+}
+
+impl Clearances {
+    // Every page is cleared for all owners.
+    pub fn all() -> Clearances
+        ensures { λ r. ⌜ r ≡ allCleared ⌝ }
+    {
+        Clearances {
+            words: [4294967295; 16],
+            count: 16,
+        }
+    }
 }
 
 // The answer: a refusal before the first step, or where the run ended.
@@ -92,36 +112,57 @@ pub fn line_at(numbers: &[i64], labels: &[i64], kinds: &[i64], pages: &[i64], i:
     }
 }
 
-// Writes a line after those that are written, and then the run stands as `after` says; without room for it stop 8, and nothing changes.
+// A page's clearance; what is no page has the empty one.
+fn clearance(clearances: &[i64], page: i64) -> Label
+    ensures { λ r. ⌜ r .0 ≡ clearanceOf (now (clearances .entry)) page ⌝ }
+{
+    let index = word::number::below(page, clearances.len());
+    match index {
+        Index::At(i) => Label::low(word::memory::at(clearances, i)),
+        Index::Outside => Label::EMPTY,
+    }
+}
+
+// Writes a line after those that are written, and then the run stands as `after` says. Where its label does not flow to its page's
+// clearance it is stop 10, else without room for it stop 8, and nothing changes.
 fn write(
     m: Machine,
     line: Line,
     after: Went,
     room: usize,
+    clearances: &[i64],
     numbers: &mut [i64],
     labels: &mut [i64],
     kinds: &mut [i64],
     pages: &mut [i64],
 ) -> Went
     ensures { λ w. ⌜ emitted w (output (now (numbers .exit)) (now (labels .exit)) (now (kinds .exit)) (now (pages .exit)))
-        ≡ writeOf room m (lineFrom line) after (output (now (numbers .entry)) (now (labels .entry)) (now (kinds .entry)) (now (pages .entry))) ⌝ }
+        ≡ writeOf (environment room (now (clearances .entry))) m (lineFrom line) after
+        (output (now (numbers .entry)) (now (labels .entry)) (now (kinds .entry)) (now (pages .entry))) ⌝ }
 {
     let lines = m.lines;
-    if lines < room {
-        let kind = line.kind;
-        let machine = after.machine;
-        word::memory::put(numbers, lines, line.number);
-        word::memory::put(labels, lines, line.label.word());
-        word::memory::put(kinds, lines, kind_word(kind));
-        word::memory::put(pages, lines, line.page);
+    let cleared_for = clearance(clearances, line.page);
+    if line.label.flows(cleared_for) {
+        if lines < room {
+            let kind = line.kind;
+            let machine = after.machine;
+            word::memory::put(numbers, lines, line.number);
+            word::memory::put(labels, lines, line.label.word());
+            word::memory::put(kinds, lines, kind_word(kind));
+            word::memory::put(pages, lines, line.page);
+            return Went {
+                machine: machine.print(room),
+                stop: after.stop,
+            };
+        }
         return Went {
-            machine: machine.print(room),
-            stop: after.stop,
+            machine: m,
+            stop: 8,
         };
     }
     Went {
         machine: m,
-        stop: 8,
+        stop: 10,
     }
 }
 
@@ -130,13 +171,15 @@ pub fn emit(
     m: Machine,
     r: Stepped,
     room: usize,
+    clearances: &[i64],
     numbers: &mut [i64],
     labels: &mut [i64],
     kinds: &mut [i64],
     pages: &mut [i64],
 ) -> Went
     ensures { λ w. ⌜ emitted w (output (now (numbers .exit)) (now (labels .exit)) (now (kinds .exit)) (now (pages .exit)))
-        ≡ emitOf room m r (output (now (numbers .entry)) (now (labels .entry)) (now (kinds .entry)) (now (pages .entry))) ⌝ }
+        ≡ emitOf (environment room (now (clearances .entry))) m r
+        (output (now (numbers .entry)) (now (labels .entry)) (now (kinds .entry)) (now (pages .entry))) ⌝ }
 {
     let machine = r.machine;
     let stop = r.stop;
@@ -154,7 +197,17 @@ pub fn emit(
             machine,
             stop: CARRIED,
         };
-        return write(m, line, after, room, numbers, labels, kinds, pages);
+        return write(
+            m,
+            line,
+            after,
+            room,
+            clearances,
+            numbers,
+            labels,
+            kinds,
+            pages,
+        );
     }
     Went { machine, stop }
 }
@@ -170,19 +223,22 @@ fn at_end(m: Machine, count: usize) -> bool
     }
 }
 
-// At the end the end line, on page 0 and labelled with the place label, and stop 0; elsewhere another stop.
+// At the end the end line, on page 0 and labelled with the place label, and stop 0, or the stop that holds that line back; elsewhere another
+// stop.
 pub fn end_or(
     m: Machine,
     count: usize,
     other: u64,
     room: usize,
+    clearances: &[i64],
     numbers: &mut [i64],
     labels: &mut [i64],
     kinds: &mut [i64],
     pages: &mut [i64],
 ) -> Went
     ensures { λ w. ⌜ emitted w (output (now (numbers .exit)) (now (labels .exit)) (now (kinds .exit)) (now (pages .exit)))
-        ≡ endOr count room m other (output (now (numbers .entry)) (now (labels .entry)) (now (kinds .entry)) (now (pages .entry))) ⌝ }
+        ≡ endOr count (environment room (now (clearances .entry))) m other
+        (output (now (numbers .entry)) (now (labels .entry)) (now (kinds .entry)) (now (pages .entry))) ⌝ }
 {
     if at_end(m, count) {
         let label = m.label;
@@ -196,7 +252,17 @@ pub fn end_or(
             machine: m,
             stop: 0,
         };
-        return write(m, line, after, room, numbers, labels, kinds, pages);
+        return write(
+            m,
+            line,
+            after,
+            room,
+            clearances,
+            numbers,
+            labels,
+            kinds,
+            pages,
+        );
     }
     Went {
         machine: m,

@@ -1,4 +1,5 @@
 // What is refused before the first step. Nothing is written here. Read specs/Start.antt first.
+use crate::Clearances;
 use label::Label;
 use label::Stored;
 use program::Checked;
@@ -61,9 +62,9 @@ fn or_else(first: Limit, second: Limit) -> Limit
     }
 }
 
-// Check 5: number 5, its place the first cell whose label word is none.
-fn label_words(labels: &[i64]) -> Limit
-    ensures { λ r. ⌜ r ≡ labelsLimit 0 (now (labels .entry)) ⌝ }
+// Checks 5 and 13, by their number: the place is the first cell, or page, whose word is no label.
+fn label_words(labels: &[i64], check: u64) -> Limit
+    ensures { λ r. ⌜ r ≡ labelsLimit check 0 (now (labels .entry)) ⌝ }
 {
     let mut i: usize = 0;
     while i < labels.len() {
@@ -74,7 +75,7 @@ fn label_words(labels: &[i64]) -> Limit
             }
             Stored::Nothing => {
                 return Limit::Broken(Refusal {
-                    code: 5,
+                    code: check,
                     position: i,
                 });
             }
@@ -83,11 +84,18 @@ fn label_words(labels: &[i64]) -> Limit
     Limit::Kept
 }
 
-// Checks 4 to 9, in document 01's order, for a sheet of so many commands.
-fn first_broken(count: usize, labels: &[i64], given: Given, own: Own) -> Limit
-    ensures { λ r. ⌜ r ≡ firstOf (limits count (now (labels .entry)) given own) ⌝ }
+// Checks 4 to 9 and 13, in their order, for a sheet of so many commands.
+fn first_broken(
+    count: usize,
+    labels: &[i64],
+    clearances: Clearances,
+    given: Given,
+    own: Own,
+) -> Limit
+    ensures { λ r. ⌜ r ≡ firstOf (limits count (now (labels .entry)) clearances given own) ⌝ }
 {
     let values = given.values;
+    let words = clearances.words;
     let shorter = crate::shorter(values, labels.len());
     let rules = own.rules;
     let row = own.row;
@@ -99,25 +107,36 @@ fn first_broken(count: usize, labels: &[i64], given: Given, own: Own) -> Limit
             or_else(handler, kept_if(given.fuel <= 1000000, 9, 0)),
         ),
     );
+    let own_and_space = or_else(rules, or_else(row, space));
+    let sets = or_else(
+        kept_if(clearances.count == 16, 13, 16),
+        or_else(label_words(&words, 13), own_and_space),
+    );
     or_else(
         kept_if(values == labels.len(), 4, shorter),
         or_else(
             kept_if(values <= 1024, 4, 1024),
-            or_else(label_words(labels), or_else(rules, or_else(row, space))),
+            or_else(label_words(labels, 5), sets),
         ),
     )
 }
 
-// All of them: how many commands the sheet has, or the first refusal that applies, of the sheet (1 to 3), the cells (4, 5), the engine's
-// own (6, 7, and 8 at 3), the working space (8) and the allowance (9).
-pub fn check(sheet: &[u8], labels: &[i64], given: Given, own: Own) -> Checked
-    ensures { λ r. ⌜ r ≡ checkAnswer (startOf (now (sheet .entry)) (now (labels .entry)) given own) ⌝ }
+// All of them: how many commands the sheet has, or the first refusal that applies, of the sheet (1 to 3, 12), the cells (4, 5), the
+// clearances (13), the engine's own (6, 7, and 8 at 3), the working space (8) and the allowance (9).
+pub fn check(
+    sheet: &[u8],
+    labels: &[i64],
+    clearances: Clearances,
+    given: Given,
+    own: Own,
+) -> Checked
+    ensures { λ r. ⌜ r ≡ checkAnswer (startOf (now (sheet .entry)) (now (labels .entry)) clearances given own) ⌝ }
 {
     let sheet_answer = program::check(sheet);
     match sheet_answer {
         Checked::Refused(r) => Checked::Refused(r),
         Checked::Accepted(count) => {
-            let limit = first_broken(count, labels, given, own);
+            let limit = first_broken(count, labels, clearances, given, own);
             match limit {
                 Limit::Broken(r) => Checked::Refused(r),
                 Limit::Kept => Checked::Accepted(count),

@@ -1,30 +1,31 @@
--- The rule memory in lent words: seven words copied one at a time; and what check 7 says where there are not seven.
+-- Lent words copied one at a time: the rule memory's seven, the clearances' sixteen; and what check 7 says where there are not seven.
 -- Assumes nothing.
-use mathlib.Core.Path.{_≡_, refl, sym, ap, subst, _∙_}
+use mathlib.Core.Path.{_≡_, refl, ap, subst, _∙_}
 use mathlib.Core.Bool.{Bool, false}
-use mathlib.Core.List.{List}
+use mathlib.Core.List.{List, _++_, append-nil}
 use Prim.Native.Nat.{ℕ, _+_, _<_, _≤_}
 use native.Mathlib.Omega.{arith}
 use lib.IntN.{ℤ, pos}
-use lib.ListN.{length, getD, set}
+use lib.ListN.{length, getD, set, drop-of-length-le}
 use lib.Dec.{eqb}
 use borrow.Author.Tests.{eq-eqb}
 use Rattle.word.specs.Choose.{choose}
+use Rattle.word.specs.Lay.{laid}
+use Rattle.word.proofs.Lay.{laidAt-zero}
 use Rattle.policy.specs.Read.{ReadTable, refused, table}
-use Rattle.policy.specs.Row.{word, acceptedRow, rowAnswer}
+use Rattle.policy.specs.Row.{acceptedRow, rowAnswer}
 use Rattle.translator.specs.Emit.{putAll}
-use Rattle.translator.proofs.Putting.{Storing, storing-next, storing-end}
-use Rattle.tagging.proofs.Rules.{words-all}
-use Rattle.tagged.proofs.Seven.{seven-written}
+use Rattle.translator.proofs.Putting.{putAll-laidAt, Storing, storing-next, storing-end}
 use Rattle.exports.specs.Row.{noRow, givenRow, leftRow}
 
-put-seven : (words before : List ℤ) → length words ≡ 7 → length before ≡ 7 → putAll 0 words before ≡ words
-unfolding putAll
-put-seven words before e d =
-    let w : ℕ → ℤ = word words in
-    ap (λ (x : List ℤ). putAll 0 x before) (words-all 7 words e)
-    ∙ seven-written before d (w 0) (w 1) (w 2) (w 3) (w 4) (w 5) (w 6)
-    ∙ sym (words-all 7 words e)
+put-whole : (words before : List ℤ) → length before ≡ length words → putAll 0 words before ≡ words
+unfolding laid
+put-whole words before e =
+    let few : length before ≤ length words = omega arith in
+    putAll-laidAt 0 words before (omega arith)
+    ∙ laidAt-zero words before
+    ∙ ap (λ (x : List ℤ). words ++ x) (drop-of-length-le before few)
+    ∙ append-nil words
 
 -- one word more
 pub copying : (words before : List ℤ) (i : ℕ) (now : List ℤ) → Storing 0 words before i now → i < length words
@@ -33,10 +34,10 @@ copying words before i now st h =
     let e : 0 + i ≡ i = omega arith in
     subst (λ (n : ℕ). Storing 0 words before (i + 1) (set now n (getD words i (pos 0)))) e (storing-next 0 words before i now st h)
 
--- seven words are copied
-pub copied : (words before : List ℤ) → length words ≡ 7 → length before ≡ 7 → (i : ℕ) (now : List ℤ) → Storing 0 words before i now
-    → 7 ≤ i → now ≡ words
-copied words before e d i now st h = storing-end 0 words before i now st (rw e h) ∙ put-seven words before e d
+-- all are copied, into as many
+pub copied : (words before : List ℤ) → length before ≡ length words → (i : ℕ) (now : List ℤ) → Storing 0 words before i now
+    → length words ≤ i → now ≡ words
+copied words before e i now st h = storing-end 0 words before i now st h ∙ put-whole words before e
 
 module _ (lent : List ℤ) where
   pub given-seven : length lent ≡ 7 → givenRow lent ≡ lent

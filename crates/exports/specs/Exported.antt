@@ -20,6 +20,7 @@ use Rattle.assembly.specs.Assembly.{Result, answer, left}
 use Rattle.exports.specs.declared.result.LuvrodanWritten.{LuvrodanWritten}
 use Rattle.exports.specs.Result.{resultOf, pageResult, writtenResult}
 use Rattle.exports.specs.Row.{givenRow, leftRow}
+use Rattle.exports.specs.Clearance.{givenClearances}
 
 -- the result and the lent runs
 pub record PlainLeft : Type 0 where
@@ -33,9 +34,9 @@ plainLeft r m = record { result = r; memory = m }
 abbrev pub exportedEnd : Ended Unit → PlainLeft
 exportedEnd e = plainLeft (resultOf (e .answer) 0 0) (e .memory)
 
--- of the sheet, the lent runs and the allowance
-unfoldable pub exportedPlain : List ℕ → Memory → ℕ → PlainLeft
-exportedPlain sheet m fuel = exportedEnd (plain sheet m fuel)
+-- of the sheet, the clearances' words, of which there may be any number, the lent runs and the allowance
+unfoldable pub exportedPlain : List ℕ → List ℤ → Memory → ℕ → PlainLeft
+exportedPlain sheet clearances m fuel = exportedEnd (plain sheet (givenClearances clearances) m fuel)
 
 -- the result, the lent rule memory, the lent runs that both engines have, and the handler space
 pub record TaggedLeft : Type 0 where
@@ -47,10 +48,10 @@ pub record TaggedLeft : Type 0 where
 abbrev pub taggedLeft : LuvrodanResult → List ℤ → Memory → List ℤ → TaggedLeft
 taggedLeft r row m handler = record { result = r; row = row; memory = m; handler = handler }
 
--- of the sheet, the table's bytes, the lent rule memory, the lent runs, the handler space and the allowance
-unfoldable pub exportedTagged : List ℕ → List ℕ → List ℤ → Memory → List ℤ → ℕ → TaggedLeft
-exportedTagged sheet bytes lent m handler fuel =
-    let x : Left = tagged sheet bytes (givenRow lent) m handler fuel in
+-- of the sheet, the table's bytes, the lent rule memory, the clearances' words, the lent runs, the handler space and the allowance
+unfoldable pub exportedTagged : List ℕ → List ℕ → List ℤ → List ℤ → Memory → List ℤ → ℕ → TaggedLeft
+exportedTagged sheet bytes lent clearances m handler fuel =
+    let x : Left = tagged sheet bytes (givenRow lent) (givenClearances clearances) m handler fuel in
     let e : Ended Tag = x .ended in
     taggedLeft (resultOf (e .answer) (e .ruler .faults) (e .ruler .kernelSteps)) (leftRow (e .ruler .row) lent) (e .memory) (x .handler)
 
@@ -72,11 +73,11 @@ uncounted r =
 
 -- what is promised where the bytes are a table and nothing was refused: its handler, as asked, lies in its space, and all but the counts is
 -- that of reading the table directly
-abbrev pub ExportedPromises : List ℕ → List ℕ → Memory → List ℤ → ℕ → TaggedLeft → Type 0
-ExportedPromises sheet bytes m handler fuel x =
+abbrev pub ExportedPromises : List ℕ → List ℕ → List ℤ → Memory → List ℤ → ℕ → TaggedLeft → Type 0
+ExportedPromises sheet bytes clearances m handler fuel x =
     Handles (readTable bytes) (λ t code. x .result .refusal ≡ 0
     → (x .handler ≡ laid (kernelWords code) handler)
-    × (plainLeft (uncounted (x .result)) (x .memory) ≡ exportedEnd (directly (evaluate t) sheet m fuel)))
+    × (plainLeft (uncounted (x .result)) (x .memory) ≡ exportedEnd (directly (evaluate t) sheet (givenClearances clearances) m fuel)))
 
 -- the result and the lent bytes
 pub record PageLeft : Type 0 where

@@ -1,3 +1,4 @@
 pub mod Result
 pub mod Row
+pub mod Clearance
 pub mod Exported

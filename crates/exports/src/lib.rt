@@ -1,4 +1,5 @@
 // What C and Rust link: the functions of include/luvrodan.h over the proved engines. Read specs/Exported.antt first.
+mod clearance;
 mod result;
 mod row;
 
@@ -22,6 +23,7 @@ pub extern "C" fn luvrodan_plain(
     sheet: &[u8],
     values: &mut [i64],
     labels: &mut [i64],
+    clearances: &[i64],
     program: &mut [i64],
     stack: &mut [i64],
     numbers: &mut [i64],
@@ -33,7 +35,7 @@ pub extern "C" fn luvrodan_plain(
     ensures { λ r. ⌜ plainLeft r
         (memory (now (program .exit)) (lent (now (stack .exit)) (cells (now (values .exit)) (now (labels .exit))))
         (output (now (numbers .exit)) (now («line_labels» .exit)) (now (kinds .exit)) (now (pages .exit))))
-        ≡ exportedPlain (now (sheet .entry))
+        ≡ exportedPlain (now (sheet .entry)) (now (clearances .entry))
         (memory (now (program .entry)) (lent (now (stack .entry)) (cells (now (values .entry)) (now (labels .entry))))
         (output (now (numbers .entry)) (now («line_labels» .entry)) (now (kinds .entry)) (now (pages .entry))))
         fuel ⌝ }
@@ -42,6 +44,7 @@ pub extern "C" fn luvrodan_plain(
         sheet,
         values,
         labels,
+        clearance::given(clearances),
         program,
         stack,
         numbers,
@@ -59,6 +62,7 @@ pub extern "C" fn luvrodan_tagged(
     sheet: &[u8],
     values: &mut [i64],
     labels: &mut [i64],
+    clearances: &[i64],
     table: &[u8],
     rule_memory: &mut [i64],
     program: &mut [i64],
@@ -74,11 +78,11 @@ pub extern "C" fn luvrodan_tagged(
         (memory (now (program .exit)) (lent (now (stack .exit)) (cells (now (values .exit)) (now (labels .exit))))
         (output (now (numbers .exit)) (now («line_labels» .exit)) (now (kinds .exit)) (now (pages .exit))))
         (now (handler .exit))
-        ≡ exportedTagged (now (sheet .entry)) (now (table .entry)) (now («rule_memory» .entry))
+        ≡ exportedTagged (now (sheet .entry)) (now (table .entry)) (now («rule_memory» .entry)) (now (clearances .entry))
         (memory (now (program .entry)) (lent (now (stack .entry)) (cells (now (values .entry)) (now (labels .entry))))
         (output (now (numbers .entry)) (now («line_labels» .entry)) (now (kinds .entry)) (now (pages .entry))))
         (now (handler .entry)) fuel ⌝ }
-    ensures rules { λ r. ⌜ ExportedPromises (now (sheet .entry)) (now (table .entry))
+    ensures rules { λ r. ⌜ ExportedPromises (now (sheet .entry)) (now (table .entry)) (now (clearances .entry))
         (memory (now (program .entry)) (lent (now (stack .entry)) (cells (now (values .entry)) (now (labels .entry))))
         (output (now (numbers .entry)) (now («line_labels» .entry)) (now (kinds .entry)) (now (pages .entry))))
         (now (handler .entry)) fuel
@@ -92,6 +96,7 @@ pub extern "C" fn luvrodan_tagged(
         sheet,
         values,
         labels,
+        clearance::given(clearances),
         table,
         cache,
         program,

@@ -4,6 +4,7 @@ use mathlib.Core.Path.{_≡_, refl}
 use mathlib.Core.Bool.{Bool, true, false}
 use mathlib.Core.List.{List, _∷_}
 use Prim.Native.Nat.{ℕ}
+use native.Mathlib.Omega.{arith}
 use lib.IntN.{ℤ, _+ℤ_, _-ℤ_}
 use lib.ListN.{length}
 use lib.Dec.{leb, ltb}
@@ -14,11 +15,13 @@ use Rattle.program.specs.declared.Command.the-variants.{Add, Sub, Pop, Output, 
 use Rattle.program.specs.Command.{supplies}
 use Rattle.machine.specs.Atom.{Atom, Entry, value, frame}
 use Rattle.machine.specs.Rule.{Input, present, missing, Key}
-use Rattle.machine.specs.State.{State, overflow, stackFull, outputFull}
+use Rattle.machine.specs.Environment.{Environment}
+use Rattle.machine.specs.State.{State, overflow, stackFull}
 use Rattle.machine.specs.Stopped.{denies}
 use Rattle.machine.specs.Step.{Outcome, stopped, stepped, Request, halt, ask, of, making, outputting, request, keyOf}
 use Rattle.machine.specs.Step.{stackLimit, withValue, withValues, withFrame, withCell}
 use Rattle.machine.specs.Holds.{Each, AtomHas, EntryHas, LabelsInRange, InputHas, KeyHas, Marked, WellMarked}
+use Rattle.machine.proofs.Barrier.{barred-all, barred-other}
 use Rattle.machine.proofs.Request.{value-all, values-all, frame-all, cell-all, provided-all}
 use Rattle.machine.proofs.Holds.{each-at}
 
@@ -38,7 +41,7 @@ marked-has {k} m =
       input3 = marked-range (leb 3 n) (k .input3) (m .input3);
     }
 
--- an effect is carried out, or is stopped for want of 64 bits or of room
+-- an effect is carried out, or is stopped for its line's page, for want of 64 bits or of room
 abbrev pub Roomy : Outcome → Type 0
 Roomy (stopped x) = denies x ≡ false
 Roomy (stepped t) = Unit
@@ -75,7 +78,7 @@ module _ (s : State) (h : LabelsInRange s) (c : Command) where
       → Asks c s (withCell (s .memory) z k)
   cell-asks z k f = cell-all (Asks c s) (s .memory) z k refl (λ i b e at. f i b (each-at (AtomHas (λ n. Unit) InRange) at (h .memory) .1))
 
-module _ (room : ℕ) (s : State) (h : LabelsInRange s) where
+module _ (env : Environment) (s : State) (h : LabelsInRange s) where
   abbrev p : InRange (s .pc .label)
   p = h .pc .1
 
@@ -89,14 +92,14 @@ module _ (room : ℕ) (s : State) (h : LabelsInRange s) where
       ))
 
   outputting-asks : (c : Command) (page : ℤ) → ((a : Atom) → InRange (a .label) → WellMarked (keyOf c s (of a) missing missing))
-      → Asks c s (outputting room s page)
+      → Asks c s (outputting env s page)
   outputting-asks c page marked =
       value-asks s h c _ (λ a rest ha. (
         marked a ha,
-        λ q r. provided-all Roomy (ltb (length (s .lines)) room) outputFull _ (λ e. tt) (λ e. refl),
+        λ q r. barred-all env (length (s .lines)) _ Roomy _ (λ e g. tt) (λ x b. barred-other env (length (s .lines)) _ b 6 (omega arith)),
       ))
 
-  pub request-asks : (c : Command) → Asks c s (request room c s)
+  pub request-asks : (c : Command) → Asks c s (request env c s)
   unfolding request
   request-asks Add = making-asks Add _+ℤ_ (λ a b ha hb. record { pc = p; input1 = ha; input2 = hb; input3 = tt })
   request-asks Sub = making-asks Sub _-ℤ_ (λ a b ha hb. record { pc = p; input1 = ha; input2 = hb; input3 = tt })
@@ -119,6 +122,6 @@ module _ (room : ℕ) (s : State) (h : LabelsInRange s) where
   request-asks (OutputTo page) = outputting-asks (OutputTo page) page (λ a ha. record { pc = p; input1 = ha; input2 = tt; input3 = tt })
 
   -- whatever a command asks with has its marks, and labels in range
-  pub request-marked : (c : Command) (l1 l2 l3 : Input) (k : ℕ → ℕ → Outcome) → request room c s ≡ ask l1 l2 l3 k
+  pub request-marked : (c : Command) (l1 l2 l3 : Input) (k : ℕ → ℕ → Outcome) → request env c s ≡ ask l1 l2 l3 k
       → WellMarked (keyOf c s l1 l2 l3)
   request-marked c l1 l2 l3 k e = let g : Asks c s (ask l1 l2 l3 k) = rw e at (request-asks c) in g .0

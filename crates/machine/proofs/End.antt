@@ -18,6 +18,7 @@ use Rattle.label.specs.Label.{flows}
 use Rattle.program.specs.declared.Command.{Command}
 use Rattle.machine.specs.Atom.{Line, endLine}
 use Rattle.machine.specs.Rule.{Ruler, rules, fixed, standard}
+use Rattle.machine.specs.Environment.{Environment}
 use Rattle.machine.specs.State.{State, Stop, start, stopNumber}
 use Rattle.machine.specs.Run.{Result, run}
 use Rattle.machine.specs.Claim.{view, keep, Start, OneStartsOther, Views}
@@ -26,6 +27,7 @@ use Rattle.machine.proofs.Step.{run-induction}
 use Rattle.machine.proofs.Execute.{Change}
 use Rattle.machine.proofs.Run.{stopped-other, stepped-explained}
 use Rattle.machine.proofs.Privacy.Effect.{view-append}
+use Rattle.machine.proofs.Barrier.{barrier-held, barred-other}
 use Rattle.machine.proofs.Privacy.{privacy}
 
 -- ════════════════════════════════════════════════════════════════════════════════════════════
@@ -43,17 +45,19 @@ hasEnd-append (l ∷ ls) ms = rw (hasEnd-append ls ms) (go (isEnd (l .kind)))
 neither : (ls ms : List Line) → hasEnd ls ≡ false → hasEnd ms ≡ false → hasEnd (ls ++ ms) ≡ false
 neither ls ms e f = rw (hasEnd-append ls ms, e, f)
 
-pub run-closes : {R : Type 0} (ρ : Ruler R) (room : ℕ) (cs : List Command) (fuel : ℕ) (s : State) (u : R) → hasEnd (s .lines) ≡ false
-    → let r : Result R = run ρ room cs fuel s u in Closes (r .stop) (r .state)
-run-closes {R} ρ room cs =
-    run-induction ρ room cs (λ fuel s u r. hasEnd (s .lines) ≡ false → Closes (r .stop) (r .state))
+pub run-closes : {R : Type 0} (ρ : Ruler R) (env : Environment) (cs : List Command) (fuel : ℕ) (s : State) (u : R) → hasEnd (s .lines) ≡ false
+    → let r : Result R = run ρ env cs fuel s u in Closes (r .stop) (r .state)
+run-closes {R} ρ env cs =
+    run-induction ρ env cs (λ fuel s u r. hasEnd (s .lines) ≡ false → Closes (r .stop) (r .state))
     (λ fuel s u e f h. record { numbers = s .lines; unended = h; lines = refl })
-    (λ fuel s u e f h. record { numbers = s .lines; unended = h; lines = rw append-nil })
+    (λ fuel s u x e f h.
+    let other = barred-other env (length (s .lines)) _ (barrier-held env (length (s .lines)) _ f) 0 (omega arith) in
+    record { numbers = s .lines; unended = h; lines = rw (other, append-nil) })
     (λ s u e h. record { numbers = s .lines; unended = h; lines = rw append-nil })
     (λ fuel s u x e g h.
-    record { numbers = s .lines; unended = h; lines = rw (stopped-other (rules ρ u) room cs s 0 (omega arith) g, append-nil) })
+    record { numbers = s .lines; unended = h; lines = rw (stopped-other (rules ρ u) env cs s 0 (omega arith) g, append-nil) })
     (λ fuel s t u r e g f h.
-    let c : Change room s t = stepped-explained (rules ρ u) room cs g in
+    let c : Change env s t = stepped-explained (rules ρ u) env cs g in
     f (rw (c .lines .1) (neither (s .lines) (c .lines .0) h (c .numbers))))
 
 -- ════════════════════════════════════════════════════════════════════════════════════════════
@@ -172,13 +176,13 @@ starts-tell v w (inr s) a b =
 -- ════════════════════════════════════════════════════════════════════════════════════════════
 
 pub complete : Complete
-complete Q R σ ρ refines₁ refines₂ cs S cells₁ cells₂ alike room₁ room₂ fuel₁ fuel₂ u v =
-    starts-tell _ _ (privacy Q R σ ρ refines₁ refines₂ cs S cells₁ cells₂ alike room₁ room₂ fuel₁ fuel₂ u v)
-    (closes-shape S _ _ (run-closes σ room₁ cs fuel₁ (start cells₁) u refl))
-    (closes-shape S _ _ (run-closes ρ room₂ cs fuel₂ (start cells₂) v refl))
+complete Q R σ ρ refines₁ refines₂ cs S cells₁ cells₂ alike env₁ env₂ fuel₁ fuel₂ u v =
+    starts-tell _ _ (privacy Q R σ ρ refines₁ refines₂ cs S cells₁ cells₂ alike env₁ env₂ fuel₁ fuel₂ u v)
+    (closes-shape S _ _ (run-closes σ env₁ cs fuel₁ (start cells₁) u refl))
+    (closes-shape S _ _ (run-closes ρ env₂ cs fuel₂ (start cells₂) v refl))
 
 pub standard-complete : Views Tells (fixed standard) (fixed standard)
 standard-complete = complete Unit Unit (fixed standard) (fixed standard) (λ u k p r e. e) (λ u k p r e. e)
 
 pub meant : Meant
-meant R ρ cs S cells room fuel u = closes-means S _ _ (run-closes ρ room cs fuel (start cells) u refl)
+meant R ρ cs S cells env fuel u = closes-means S _ _ (run-closes ρ env cs fuel (start cells) u refl)

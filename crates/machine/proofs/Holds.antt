@@ -21,13 +21,15 @@ use Rattle.program.specs.Command.{Opcode, add, sub, pop, output, push, load, st
 use Rattle.machine.specs.Atom.{Atom, Entry, value, frame, Line, numberLine, endLine}
 use Rattle.machine.specs.Rule.{Input, present, missing, Verdict, denied, allowed, Policy, Ruler, rules, standard}
 use Rattle.machine.specs.Rule.{labelOf, allowedIf, rule}
-use Rattle.machine.specs.State.{State, overflow, stackFull, outputFull}
+use Rattle.machine.specs.Environment.{Environment}
+use Rattle.machine.specs.State.{State, overflow, stackFull}
 use Rattle.machine.specs.Step.{Request, halt, ask, stackLimit, withValue, withValues, withFrame, withCell, atom}
 use Rattle.machine.specs.Step.{branch, keyOf, decide, consult, making, outputting, request, execute}
 use Rattle.machine.specs.Run.{step, closed, run}
 use Rattle.machine.specs.Stopped.{CommandAt, Makes, sum, difference, Made, number}
 use Rattle.machine.specs.Holds.{Each, AtomHas, EntryHas, LineHas, Holds, LabelsInRange, NumbersSigned, InputHas, Answers, ProgramHas}
 use Rattle.machine.specs.Exact.{Brings}
+use Rattle.machine.proofs.Barrier.{barred-all}
 use Rattle.machine.proofs.Request.{At, here, there, value-all, values-all, frame-all, cell-all, provided-all}
 use Rattle.machine.proofs.Step.{Gives, gives-stepped, step-all, run-keeps}
 
@@ -108,8 +110,8 @@ module _ (N : ℤ → Type 0) (L : ℕ → Type 0) (s : State) (h : Holds N L s)
             (λ t. tt),
       ))
 
-  outputting-keeps : (room : ℕ) (c : Command) (page : ℤ) → Brings N c s → Keeps (outputting room s page)
-  outputting-keeps room c page new =
+  outputting-keeps : (env : Environment) (c : Command) (page : ℤ) → Brings N c s → Keeps (outputting env s page)
+  outputting-keeps env c page new =
       value-keeps _ (λ a rest ha hs. (
         ha .1,
         tt,
@@ -117,18 +119,18 @@ module _ (N : ℤ → Type 0) (L : ℕ → Type 0) (s : State) (h : Holds N L s)
         λ p r hp hr.
             let written : Each (LineHas N L) (s .lines ++ (numberLine page (a .number) r ∷ [])) =
             each-snoc (LineHas N L) (s .lines) _ (h .lines) (ha .0, hr) in
-            provided-all (Gives (Holds N L)) (ltb (length (s .lines)) room) outputFull _
-            (λ e. record { pc = (new .following, hp); stack = hs; memory = h .memory; lines = written })
-            (λ e. tt),
+            barred-all env (length (s .lines)) _ (Gives (Holds N L)) _
+            (λ e g. record { pc = (new .following, hp); stack = hs; memory = h .memory; lines = written })
+            (λ x b. tt),
       ))
 
-  request-keeps : (room : ℕ) (c : Command) → Brings N c s → Keeps (request room c s)
+  request-keeps : (env : Environment) (c : Command) → Brings N c s → Keeps (request env c s)
   unfolding request
-  request-keeps room Add new = making-keeps Add _ sum new
-  request-keeps room Sub new = making-keeps Sub _ difference new
-  request-keeps room Pop new = value-keeps _ (λ a rest ha hs. (ha .1, tt, tt, λ p r hp hr. moved (new .following, hp) hs))
-  request-keeps room Output new = outputting-keeps room Output _ new
-  request-keeps room (Push n) new = (
+  request-keeps env Add new = making-keeps Add _ sum new
+  request-keeps env Sub new = making-keeps Sub _ difference new
+  request-keeps env Pop new = value-keeps _ (λ a rest ha hs. (ha .1, tt, tt, λ p r hp hr. moved (new .following, hp) hs))
+  request-keeps env Output new = outputting-keeps env Output _ new
+  request-keeps env (Push n) new = (
     tt,
     tt,
     tt,
@@ -137,10 +139,10 @@ module _ (N : ℤ → Type 0) (L : ℕ → Type 0) (s : State) (h : Holds N L s)
         (λ e. moved (new .following, hp) ((new .pushed n refl, hr), h .stack))
         (λ e. tt),
   )
-  request-keeps room Load new =
+  request-keeps env Load new =
       value-keeps _ (λ a rest ha hs. cell-keeps (a .number) _ (λ i c hc.
       (ha .1, hc .1, tt, λ p r hp hr. moved (new .following, hp) ((hc .0, hr), hs))))
-  request-keeps room Store new =
+  request-keeps env Store new =
       values-keeps _ (λ a b rest ha hb hs. cell-keeps (a .number) _ (λ i c hc. (
         ha .1,
         hb .1,
@@ -150,8 +152,8 @@ module _ (N : ℤ → Type 0) (L : ℕ → Type 0) (s : State) (h : Holds N L s)
             each-set (AtomHas N L) (s .memory) i _ (hb .0, hr) (h .memory) in
             record { pc = (new .following, hp); stack = hs; memory = stored; lines = h .lines },
       )))
-  request-keeps room Jump new = value-keeps _ (λ a rest ha hs. (ha .1, tt, tt, λ p r hp hr. moved (ha .0, hp) hs))
-  request-keeps room (Bnz n) new =
+  request-keeps env Jump new = value-keeps _ (λ a rest ha hs. (ha .1, tt, tt, λ p r hp hr. moved (ha .0, hp) hs))
+  request-keeps env (Bnz n) new =
       value-keeps _ (λ a rest ha hs. (
         ha .1,
         tt,
@@ -159,10 +161,10 @@ module _ (N : ℤ → Type 0) (L : ℕ → Type 0) (s : State) (h : Holds N L s)
         λ p r hp hr.
             moved (branch-has (a .number) n (new .following) (new .branched n refl), hp) hs,
       ))
-  request-keeps room Call new =
+  request-keeps env Call new =
       values-keeps _ (λ a b rest ha hb hs. (ha .1, tt, tt, λ p r hp hr. moved (ha .0, hp) (hb, ((new .following, hr), hs))))
-  request-keeps room Ret new = frame-keeps _ (λ a rest ha hs. (ha .1, tt, tt, λ p r hp hr. moved (ha .0, hp) hs))
-  request-keeps room (OutputTo page) new = outputting-keeps room (OutputTo page) page new
+  request-keeps env Ret new = frame-keeps _ (λ a rest ha hs. (ha .1, tt, tt, λ p r hp hr. moved (ha .0, hp) hs))
+  request-keeps env (OutputTo page) new = outputting-keeps env (OutputTo page) page new
 
 -- the end line has the number 0 and the place label
 closed-holds : (N : ℤ → Type 0) (L : ℕ → Type 0) → N (pos 0) → (s : State) → Holds N L s → Holds N L (closed s)
@@ -187,12 +189,12 @@ module _ (N : ℤ → Type 0) (L : ℕ → Type 0) (cs : List Command) where
             let (hp, hr) = answers (keyOf c s l1 l2 l3) p r (record { pc = h .pc .1; input1 = h1; input2 = h2; input3 = h3 }) e in
             g p r hp hr
 
-    pub step-holds : (room : ℕ) (s : State) → ((c : Command) → CommandAt cs (s .pc .number) c → Brings N c s) → Holds N L s
-        → Gives (Holds N L) (step π room cs s)
+    pub step-holds : (env : Environment) (s : State) → ((c : Command) → CommandAt cs (s .pc .number) c → Brings N c s) → Holds N L s
+        → Gives (Holds N L) (step π env cs s)
     unfolding execute
-    step-holds room s brings h =
-        step-all π room s (Gives (Holds N L)) cs
-        (λ c at. consult-holds c s h (request room c s) (request-keeps N L s h room c (brings c at)))
+    step-holds env s brings h =
+        step-all π env s (Gives (Holds N L)) cs
+        (λ c at. consult-holds c s h (request env c s) (request-keeps N L s h env c (brings c at)))
         (λ e. tt)
 
   -- where a program has such numbers, and what its commands make of two such numbers is such a one
@@ -208,11 +210,11 @@ module _ (N : ℤ → Type 0) (L : ℕ → Type 0) (cs : List Command) where
           }
 
       -- of a ruler that answers with such labels in every state
-      pub run-holds : {R : Type 0} (ρ : Ruler R) → N (pos 0) → ((u : R) → Answers L (rules ρ u)) → (room fuel : ℕ) (s : State) (u : R)
-          → Holds N L s → Holds N L (run ρ room cs fuel s u .state)
-      run-holds ρ nought answers room fuel s u h =
-          run-keeps ρ room cs (Holds N L)
-          (λ s t u at e g. gives-stepped (Holds N L) e (step-holds (rules ρ u) (answers u) room s (brings-at s g) g))
+      pub run-holds : {R : Type 0} (ρ : Ruler R) → N (pos 0) → ((u : R) → Answers L (rules ρ u)) → (env : Environment) (fuel : ℕ) (s : State) (u : R)
+          → Holds N L s → Holds N L (run ρ env cs fuel s u .state)
+      run-holds ρ nought answers env fuel s u h =
+          run-keeps ρ env cs (Holds N L)
+          (λ s t u at e g. gives-stepped (Holds N L) e (step-holds (rules ρ u) (answers u) env s (brings-at s g) g))
           (λ s at f g. closed-holds N L nought s g) fuel s u h
 
 -- ════════════════════════════════════════════════════════════════════════════════════════════
@@ -226,14 +228,14 @@ anything cs = record { pushed = λ z n e. tt; branched = λ z n e. tt; following
 brings-anything : (c : Command) (s : State) → Brings (λ n. Unit) c s
 brings-anything c s = record { pushed = λ n e. tt; branched = λ n e. tt; following = tt; made = λ m g. tt }
 
-pub step-range : (π : Policy) → Answers InRange π → (room : ℕ) (cs : List Command) (s : State) → LabelsInRange s
-    → Gives LabelsInRange (step π room cs s)
-step-range π answers room cs s h = step-holds (λ n. Unit) InRange cs π answers room s (λ c at. brings-anything c s) h
+pub step-range : (π : Policy) → Answers InRange π → (env : Environment) (cs : List Command) (s : State) → LabelsInRange s
+    → Gives LabelsInRange (step π env cs s)
+step-range π answers env cs s h = step-holds (λ n. Unit) InRange cs π answers env s (λ c at. brings-anything c s) h
 
-pub run-range : {R : Type 0} (ρ : Ruler R) → ((u : R) → Answers InRange (rules ρ u)) → (room : ℕ) (cs : List Command) (fuel : ℕ)
-    (s : State) (u : R) → LabelsInRange s → LabelsInRange (run ρ room cs fuel s u .state)
-run-range ρ answers room cs fuel s u h =
-    run-holds (λ n. Unit) InRange cs (anything cs) (λ c s h m g. tt) ρ tt answers room fuel s u h
+pub run-range : {R : Type 0} (ρ : Ruler R) → ((u : R) → Answers InRange (rules ρ u)) → (env : Environment) (cs : List Command) (fuel : ℕ)
+    (s : State) (u : R) → LabelsInRange s → LabelsInRange (run ρ env cs fuel s u .state)
+run-range ρ answers env cs fuel s u h =
+    run-holds (λ n. Unit) InRange cs (anything cs) (λ c s h m g. tt) ρ tt answers env fuel s u h
 
 -- the standard policy's answers are in range
 abbrev InRangeVerdict : Verdict → Type 0
@@ -310,7 +312,7 @@ program-signed cs h pushed branched =
     goes (negsuc i) c n at g = never (cc)
 
 -- Add and Sub leave such numbers only, by their test
-pub run-numbers : {R : Type 0} (ρ : Ruler R) (room : ℕ) (cs : List Command) → ProgramHas (Signed 64) cs
-    → (fuel : ℕ) (s : State) (u : R) → NumbersSigned s → NumbersSigned (run ρ room cs fuel s u .state)
-run-numbers ρ room cs has fuel s u h =
-    run-holds (Signed 64) (λ l. Unit) cs has (λ c s h m g. g) ρ (omega arith) (λ u k p r g e. (tt, tt)) room fuel s u h
+pub run-numbers : {R : Type 0} (ρ : Ruler R) (env : Environment) (cs : List Command) → ProgramHas (Signed 64) cs
+    → (fuel : ℕ) (s : State) (u : R) → NumbersSigned s → NumbersSigned (run ρ env cs fuel s u .state)
+run-numbers ρ env cs has fuel s u h =
+    run-holds (Signed 64) (λ l. Unit) cs has (λ c s h m g. g) ρ (omega arith) (λ u k p r g e. (tt, tt)) env fuel s u h

@@ -1,5 +1,6 @@
 pub mod Stops
 pub mod Request
+pub mod Barrier
 pub mod Execute
 pub mod Step
 pub mod Run
@@ -9,4 +10,6 @@ pub mod Exact
 pub mod Asked
 pub mod Privacy
 pub mod End
+pub mod Lines
 pub mod Page
+pub mod Clearance

@@ -20,6 +20,7 @@ use Rattle.label.specs.Label.{flows}
 use Rattle.program.specs.declared.Command.{Command}
 use Rattle.machine.specs.Atom.{Atom}
 use Rattle.machine.specs.Rule.{Ruler, rules, fixed, standard}
+use Rattle.machine.specs.Environment.{Environment}
 use Rattle.machine.specs.State.{State, start}
 use Rattle.machine.specs.Run.{atEnd, step, closed, run}
 use Rattle.machine.specs.Claim.{Alike, none, same, hidden, Refines, Private, Claim}
@@ -36,16 +37,16 @@ alike-see none = refl
 alike-see (same alike) = rw (alike-see alike)
 alike-see {S} (hidden {a = a} {b = b} out out′ alike) = rw (see-outside S a out, see-outside S b out′, alike-see alike)
 
-module _ {R : Type 0} (ρ : Ruler R) (refines : Refines ρ) (room : ℕ) (cs : List Command) (S : ℕ) where
+module _ {R : Type 0} (ρ : Ruler R) (refines : Refines ρ) (env : Environment) (cs : List Command) (S : ℕ) where
   -- the state t is seen as what the place of s makes of what is seen of s
   abbrev Shows : State → State → Type 0
   Shows s t = erase S t ≡ actAt cs (s .pc .number) (erase S s)
 
   -- so is a step, and so is the end line
-  step-shows : (s : State) (u : R) → atEnd (length cs) (s .pc .number) ≡ false → Gives (λ t. Shows s t) (step (rules ρ u) room cs s)
+  step-shows : (s : State) (u : R) → atEnd (length cs) (s .pc .number) ≡ false → Gives (λ t. Shows s t) (step (rules ρ u) env cs s)
   step-shows s u e =
-      step-all (rules ρ u) room s (Gives (λ t. Shows s t)) cs
-      (λ c at. rw (e, at) (execute-refines (rules ρ u) (refines u) _ room c s (act-shows S room c s)))
+      step-all (rules ρ u) env s (Gives (λ t. Shows s t)) cs
+      (λ c at. rw (e, at) (execute-refines (rules ρ u) (refines u) _ env c s (act-shows S env c s)))
       (λ out. tt)
 
   closed-shows : (s : State) → atEnd (length cs) (s .pc .number) ≡ true → Shows s (closed s)
@@ -73,17 +74,17 @@ module _ {R : Type 0} (ρ : Ruler R) (refines : Refines ρ) (room : ℕ) (cs : L
       go (inl f) = (n, f ∙ e)
       go (inr f) = (suc n, f ∙ ap (move cs) e ∙ sym (moves-suc cs n v))
 
-  run-reaches : (fuel : ℕ) (s : State) (u : R) → Reached (seen s) (run ρ room cs fuel s u .state)
+  run-reaches : (fuel : ℕ) (s : State) (u : R) → Reached (seen s) (run ρ env cs fuel s u .state)
   run-reaches fuel s u =
-      run-keeps ρ room cs (Reached (seen s))
+      run-keeps ρ env cs (Reached (seen s))
       (λ v t w at e h. shows-reaches (seen s) v t h (gives-stepped (Shows v) e (step-shows v w at)))
       (λ v at f h. shows-reaches (seen s) v (closed v) h (closed-shows v at))
       fuel s u (0, refl)
 
 pub privacy : Claim
-privacy Q R σ ρ refines₁ refines₂ cs S cells₁ cells₂ alike room₁ room₂ fuel₁ fuel₂ u v =
-    let (n, e) = run-reaches σ refines₁ room₁ cs S fuel₁ (start cells₁) u in
-    let (m, f) = run-reaches ρ refines₂ room₂ cs S fuel₂ (start cells₂) v in
+privacy Q R σ ρ refines₁ refines₂ cs S cells₁ cells₂ alike env₁ env₂ fuel₁ fuel₂ u v =
+    let (n, e) = run-reaches σ refines₁ env₁ cs S fuel₁ (start cells₁) u in
+    let (m, f) = run-reaches ρ refines₂ env₂ cs S fuel₂ (start cells₂) v in
     rw (ap (λ (v : View). v .lines) e, ap (λ (v : View). v .lines) f, alike-see alike) (moves-start cs n m _)
 
 pub standard-private : Private (fixed standard) (fixed standard)

@@ -9,6 +9,7 @@ use Rattle.label.specs.Label.{flows}
 use Rattle.program.specs.declared.Command.{Command}
 use Rattle.machine.specs.Atom.{Atom, Line}
 use Rattle.machine.specs.Rule.{Key, allowed, Ruler, rules, standard}
+use Rattle.machine.specs.Environment.{Environment}
 use Rattle.machine.specs.State.{start}
 use Rattle.machine.specs.Run.{run}
 
@@ -53,10 +54,10 @@ abbrev pub Views : (List Line → List Line → Type 0) → {Q R : Type 0} → R
 Views So {Q} {R} σ ρ =
     (program : List Command) (S : ℕ) (cells₁ cells₂ : List Atom) →
     Alike S cells₁ cells₂ →
-    (room₁ room₂ fuel₁ fuel₂ : ℕ) (u : Q) (v : R) →
+    (env₁ env₂ : Environment) (fuel₁ fuel₂ : ℕ) (u : Q) (v : R) →
     So
-    (view S (run σ room₁ program fuel₁ (start cells₁) u .state .lines))
-    (view S (run ρ room₂ program fuel₂ (start cells₂) v .state .lines))
+    (view S (run σ env₁ program fuel₁ (start cells₁) u .state .lines))
+    (view S (run ρ env₂ program fuel₂ (start cells₂) v .state .lines))
 
 -- one is the start of the other
 abbrev pub Private : {Q R : Type 0} → Ruler Q → Ruler R → Type 0

@@ -12,6 +12,7 @@ use Rattle.machine.specs.declared.Kind.{Kind}
 use Rattle.machine.specs.declared.Kind.the-variants.{Number, End}
 use Rattle.machine.specs.Atom.{Atom, Line, endLine}
 use Rattle.machine.specs.Rule.{Ruler}
+use Rattle.machine.specs.Environment.{Environment}
 use Rattle.machine.specs.State.{State, Stop, stopNumber, start}
 use Rattle.machine.specs.Run.{Result, run}
 use Rattle.machine.specs.Claim.{view, Start, Refines, Views}
@@ -62,6 +63,6 @@ pub record Means (S : ℕ) (view : List Line) (stop label : ℕ) : Type 0 where
 -- of every run
 abbrev pub Meant : Type 1
 Meant =
-    (R : Type 0) (ρ : Ruler R) (program : List Command) (S : ℕ) (cells : List Atom) (room fuel : ℕ) (u : R)
-    → let r : Result R = run ρ room program fuel (start cells) u in
+    (R : Type 0) (ρ : Ruler R) (program : List Command) (S : ℕ) (cells : List Atom) (env : Environment) (fuel : ℕ) (u : R)
+    → let r : Result R = run ρ env program fuel (start cells) u in
     Means S (view S (r .state .lines)) (stopNumber (r .stop)) (r .state .pc .label)

@@ -1,6 +1,7 @@
 pub mod Atom
 pub mod Rule
 pub mod State
+pub mod Environment
 pub mod Step
 pub mod Run
 pub mod Stopped
@@ -9,3 +10,4 @@ pub mod Exact
 pub mod Claim
 pub mod End
 pub mod Page
+pub mod Clearance

@@ -11,6 +11,7 @@ use Rattle.program.specs.declared.Command.the-variants.{OutputTo}
 use Rattle.program.specs.Command.{isPage}
 use Rattle.machine.specs.Atom.{Atom, Line}
 use Rattle.machine.specs.Rule.{Ruler}
+use Rattle.machine.specs.Environment.{Environment}
 use Rattle.machine.specs.State.{start}
 use Rattle.machine.specs.Run.{run}
 use Rattle.machine.specs.Stopped.{CommandAt}
@@ -45,5 +46,5 @@ OnPages ls = Each (λ l. isPage (l .page) ≡ true) ls
 
 abbrev pub PagesKept : Type 1
 PagesKept =
-    (R : Type 0) (ρ : Ruler R) (room : ℕ) (program : List Command) → PagesGiven program
-    → (fuel : ℕ) (cells : List Atom) (u : R) → OnPages (run ρ room program fuel (start cells) u .state .lines)
+    (R : Type 0) (ρ : Ruler R) (env : Environment) (program : List Command) → PagesGiven program
+    → (fuel : ℕ) (cells : List Atom) (u : R) → OnPages (run ρ env program fuel (start cells) u .state .lines)

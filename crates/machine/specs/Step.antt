@@ -2,6 +2,7 @@
 use Prim.Native.Nat.{ℕ, zero, suc, _+_}
 use mathlib.Core.Bool.{Bool, true, false}
 use mathlib.Core.List.{List, [], _∷_, _++_}
+use mathlib.Core.Option.{Option, none, some}
 use lib.IntN.{ℤ, pos, negsuc, _+ℤ_, _-ℤ_}
 use lib.ListN.{length, set}
 use lib.Dec.{ltb}
@@ -12,7 +13,7 @@ use Rattle.program.specs.Command.{opcode}
 use Rattle.machine.specs.Atom.{Atom, Entry, value, frame, Line, numberLine}
 use Rattle.machine.specs.Rule.{Input, present, missing, Key, Verdict, denied, allowed, Policy}
 use Rattle.machine.specs.State.{State, Stop, valueMissing, frameMissing, addressOutside, denial, overflow, stackFull}
-use Rattle.machine.specs.State.{outputFull}
+use Rattle.machine.specs.Environment.{Environment, barrier}
 
 -- the largest number of stack entries
 abbrev pub stackLimit : ℕ
@@ -59,10 +60,15 @@ abbrev pub withCell : List Atom → ℤ → (ℕ → Atom → Request) → Reque
 withCell cells (pos i) k = withElement cells i (k i)
 withCell cells (negsuc i) k = halt addressOutside
 
--- a number of 64 bits, room on the stack, room for a line
+-- a number of 64 bits, room on the stack
 abbrev pub provided : Bool → Stop → Outcome → Outcome
 provided true s o = o
 provided false s o = stopped s
+
+-- a line that nothing holds back
+abbrev pub unlessBarred : Option Stop → Outcome → Outcome
+unlessBarred none o = o
+unlessBarred (some x) o = stopped x
 
 -- ════════════════════════════════════════════════════════════════════════════════════════════
 -- What it does
@@ -124,48 +130,48 @@ making s make =
     provided (isSigned 64 (make (a .number) (b .number))) overflow
     (next s p (value (atom (make (a .number) (b .number)) r) ∷ rest))))
 
--- Output and OutputTo: a line on a page, where there is room for it
-abbrev pub outputting : ℕ → State → ℤ → Request
-outputting room s page =
+-- Output and OutputTo: a line on a page, where nothing holds it back
+abbrev pub outputting : Environment → State → ℤ → Request
+outputting env s page =
     withValue (s .stack) (λ a rest.
     ask (of a) missing missing (λ p r.
-    provided (ltb (length (s .lines)) room) outputFull
-    (printing s p rest (numberLine page (a .number) r))))
+    let line = numberLine page (a .number) r in
+    unlessBarred (barrier env (length (s .lines)) line) (printing s p rest line)))
 
--- what each command comes to; `room` is how many lines fit
-unfoldable pub request : ℕ → Command → State → Request
-request room Add s = making s _+ℤ_
-request room Sub s = making s _-ℤ_
-request room Pop s =
+-- what each command comes to
+unfoldable pub request : Environment → Command → State → Request
+request env Add s = making s _+ℤ_
+request env Sub s = making s _-ℤ_
+request env Pop s =
     withValue (s .stack) (λ a rest.
     ask (of a) missing missing (λ p r. next s p rest))
-request room Output s = outputting room s (pos 0)
-request room (Push n) s =
+request env Output s = outputting env s (pos 0)
+request env (Push n) s =
     ask missing missing missing (λ p r.
     provided (ltb (length (s .stack)) stackLimit) stackFull
     (next s p (value (atom n r) ∷ s .stack)))
-request room Load s =
+request env Load s =
     withValue (s .stack) (λ a rest.
     withCell (s .memory) (a .number) (λ i c.
     ask (of a) (of c) missing (λ p r. next s p (value (atom (c .number) r) ∷ rest))))
-request room Store s =
+request env Store s =
     withValues (s .stack) (λ a b rest.
     withCell (s .memory) (a .number) (λ i c.
     ask (of a) (of b) (of c) (λ p r. storing s p rest i (atom (b .number) r))))
-request room Jump s =
+request env Jump s =
     withValue (s .stack) (λ a rest.
     ask (of a) missing missing (λ p r. goto s (atom (a .number) p) rest))
-request room (Bnz n) s =
+request env (Bnz n) s =
     withValue (s .stack) (λ a rest.
     ask (of a) missing missing (λ p r. goto s (atom (branch (a .number) (s .pc .number) n) p) rest))
-request room Call s =
+request env Call s =
     withValues (s .stack) (λ a b rest.
     ask (of a) missing missing (λ p r.
     goto s (atom (a .number) p) (value b ∷ frame (atom (s .pc .number +ℤ pos 1) r) ∷ rest)))
-request room Ret s =
+request env Ret s =
     withFrame (s .stack) (λ a rest.
     ask (of a) missing missing (λ p r. goto s (atom (a .number) p) rest))
-request room (OutputTo page) s = outputting room s page
+request env (OutputTo page) s = outputting env s page
 
 -- the rule's answer decides
 abbrev pub decide : Verdict → (ℕ → ℕ → Outcome) → Outcome
@@ -181,5 +187,5 @@ consult π c s (halt x) = stopped x
 consult π c s (ask l1 l2 l3 k) = decide (π (keyOf c s l1 l2 l3)) k
 
 -- one command, at the place of the state
-unfoldable pub execute : Policy → ℕ → Command → State → Outcome
-execute π room c s = consult π c s (request room c s)
+unfoldable pub execute : Policy → Environment → Command → State → Outcome
+execute π env c s = consult π c s (request env c s)

@@ -3,7 +3,7 @@
 use Prim.Native.Nat.{ℕ, _+_, _≤_}
 use mathlib.Core.Path.{_≡_}
 use mathlib.Core.Logic.{_⊎_}
-use mathlib.Core.Bool.{Bool}
+use mathlib.Core.Bool.{Bool, true, false}
 use mathlib.Core.Option.{none, some}
 use mathlib.Core.List.{List, [], _∷_, _++_}
 use lib.IntN.{ℤ, pos, _+ℤ_, _-ℤ_}
@@ -13,11 +13,12 @@ use Rattle.word.specs.Wrap.{Signed}
 use Rattle.program.specs.declared.Command.{Command}
 use Rattle.program.specs.declared.Command.the-variants.{Add, Sub, Output, OutputTo}
 use Rattle.program.specs.Command.{opcode, push}
-use Rattle.machine.specs.Atom.{Atom, Entry, value, Line, endLine}
-use Rattle.machine.specs.Rule.{Policy, denied}
+use Rattle.machine.specs.Atom.{Atom, Entry, value, Line, numberLine, endLine}
+use Rattle.machine.specs.Rule.{Policy, missing, denied, allowed}
 use Rattle.machine.specs.State.{State, Stop, end, fuelSpent, pcOutside, valueMissing, frameMissing}
-use Rattle.machine.specs.State.{addressOutside, denial, overflow, stackFull, outputFull, stopNumber}
-use Rattle.machine.specs.Step.{Request, halt, ask, request, keyOf, stackLimit}
+use Rattle.machine.specs.State.{addressOutside, denial, notCleared, overflow, stackFull, outputFull, stopNumber}
+use Rattle.machine.specs.Environment.{Environment, cleared}
+use Rattle.machine.specs.Step.{Request, halt, ask, request, of, keyOf, stackLimit}
 use Rattle.machine.specs.Run.{commandAt, Result}
 
 -- the steps of a run from s with the given fuel: at most that many, and that many where it is spent
@@ -76,21 +77,36 @@ pub data Writes : Command → ℤ → Type 0 where
   plain : Writes Output (pos 0)
   to : {page : ℤ} → Writes (OutputTo page) page
 
-abbrev pub Prints : Command → Type 0
-Prints c = (page : ℤ) × Writes c page
+-- the line that such a command offers: the number on top, with the result label that its rule gives
+pub record Offers (π : Policy) (s : State) (l : Line) (c : Command) : Type 0 where
+  pub page : ℤ
+  pub writes : Writes c page
+  pub top : Atom
+  pub rest : List Entry
+  pub found : s .stack ≡ value top ∷ rest
+  pub pc : ℕ
+  pub label : ℕ
+  pub ruled : π (keyOf c s (of top) missing missing) ≡ allowed pc label
+  pub line : l ≡ numberLine page (top .number) label
+
+-- the line that is to go out next: what the command at the place offers, or the end line
+abbrev pub Due : Policy → List Command → State → Line → Type 0
+Due π cs s l = Here cs s (Offers π s l) ⊎ (AtTheEnd cs s × (l ≡ endLine (s .pc .label)))
 
 -- the state s, in which the run stopped, for each stop
-abbrev pub Stopped : Policy → ℕ → List Command → State → Stop → Type 0
-Stopped π room cs s end = AtTheEnd cs s × LastLine s (endLine (s .pc .label))
-Stopped π room cs s fuelSpent = AtTheEnd cs s → ⊥
-Stopped π room cs s pcOutside = NoCommandAt cs (s .pc .number) × (AtTheEnd cs s → ⊥)
-Stopped π room cs s valueMissing = Here cs s (λ c. request room c s ≡ halt valueMissing)
-Stopped π room cs s frameMissing = Here cs s (λ c. request room c s ≡ halt frameMissing)
-Stopped π room cs s addressOutside = Here cs s (λ c. request room c s ≡ halt addressOutside)
-Stopped π room cs s denial = Here cs s (λ c. Denied π c s (request room c s))
-Stopped π room cs s overflow = Here cs s (λ c. Overflows c s)
-Stopped π room cs s stackFull = Here cs s (λ c. (opcode c ≡ push) × (stackLimit ≤ length (s .stack)))
-Stopped π room cs s outputFull = (Here cs s Prints ⊎ AtTheEnd cs s) × (room ≤ length (s .lines))
+abbrev pub Stopped : Policy → Environment → List Command → State → Stop → Type 0
+Stopped π env cs s end = AtTheEnd cs s × LastLine s (endLine (s .pc .label))
+Stopped π env cs s fuelSpent = AtTheEnd cs s → ⊥
+Stopped π env cs s pcOutside = NoCommandAt cs (s .pc .number) × (AtTheEnd cs s → ⊥)
+Stopped π env cs s valueMissing = Here cs s (λ c. request env c s ≡ halt valueMissing)
+Stopped π env cs s frameMissing = Here cs s (λ c. request env c s ≡ halt frameMissing)
+Stopped π env cs s addressOutside = Here cs s (λ c. request env c s ≡ halt addressOutside)
+Stopped π env cs s denial = Here cs s (λ c. Denied π c s (request env c s))
+Stopped π env cs s notCleared = (l : Line) × Due π cs s l × (cleared env l ≡ false)
+Stopped π env cs s overflow = Here cs s (λ c. Overflows c s)
+Stopped π env cs s stackFull = Here cs s (λ c. (opcode c ≡ push) × (stackLimit ≤ length (s .stack)))
+Stopped π env cs s outputFull =
+    (l : Line) × Due π cs s l × (cleared env l ≡ true) × (env .room ≤ length (s .lines))
 
 -- is it stop 6?
 abbrev pub denies : Stop → Bool

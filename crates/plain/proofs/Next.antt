@@ -14,6 +14,7 @@ use Rattle.word.specs.Number.{indexOf}
 use Rattle.word.specs.Wrap.{Signed, addWrap, residue}
 use Rattle.word.proofs.Bits.{index-found}
 use Rattle.label.specs.Label.{bottom}
+use Rattle.machine.specs.Environment.{Environment}
 use Rattle.stack.specs.declared.Machine.{Machine}
 use Rattle.stack.specs.Words.{pushed, pushedStack, gone, following, outcome, carriedOut}
 use Rattle.step.specs.Lent.{Lent, lent, after}
@@ -39,15 +40,15 @@ index-after z n i few e h =
 pub one-less : (fuel left : ℕ) → 0 < left → left ≤ fuel → fuel - left + 1 ≡ fuel - (left - 1)
 one-less fuel left h k = omega arith
 
-module _ (count room fuel : ℕ) (program : List ℤ) (l₀ : Lent) (o₀ : Output) where
+module _ (count : ℕ) (env : Environment) (fuel : ℕ) (program : List ℤ) (l₀ : Lent) (o₀ : Output) where
   -- going on with the command that is chosen, with so much of the allowance left or one less
   pub record Chose (l : Lent) (o : Output) (left : ℕ) (a : Ready) : Type 0 where
     pub since : a .next .left ≤ left
-    pub acting : Acting standardRuler count room fuel program tt l₀ o₀
+    pub acting : Acting standardRuler count env fuel program tt l₀ o₀
         (a .next .word) (a .next .operand) (a .next .machine) tt (lent (a .stack) (l .cells)) o (fuel - a .next .left)
 
   module _ (m : Machine) (l : Lent) (o : Output) (left : ℕ) (k : left ≤ fuel)
-      (g : Going standardRuler count room fuel program tt l₀ o₀ m tt l o (fuel - left))
+      (g : Going standardRuler count env fuel program tt l₀ o₀ m tt l o (fuel - left))
       (h : 0 < left) (i : ℕ) (e : indexOf (m .pc .0) count ≡ At i) (few : count ≤ 4096) where
     abbrev over : Machine
     over = following (pushed m) (m .label .0)
@@ -55,8 +56,8 @@ module _ (count room fuel : ℕ) (program : List ℤ) (l₀ : Lent) (o₀ : Outp
     abbrev stack : List ℤ
     stack = pushedStack m (l .stack) (pos 0) (operandAt program i) bottom
 
-    here : Acting standardRuler count room fuel program tt l₀ o₀ (wordAt program i) (operandAt program i) m tt l o (fuel - left)
-    here = going-at standardRuler count room fuel program tt l₀ o₀ m tt l o _ g (omega arith) i e
+    here : Acting standardRuler count env fuel program tt l₀ o₀ (wordAt program i) (operandAt program i) m tt l o (fuel - left)
+    here = going-at standardRuler count env fuel program tt l₀ o₀ m tt l o _ g (omega arith) i e
 
     module _ (d : ltb (m .depth) 256 ≡ true) (c : eqb (residue 64 (wordAt program i)) 5 ≡ true) where
       push-goes : acted (after (outcome over carriedOut) (lent stack (l .cells))) tt
@@ -76,12 +77,12 @@ module _ (count room fuel : ℕ) (program : List ℤ) (l₀ : Lent) (o₀ : Outp
       unfolding emitOf
       chose-over f b =
           let on =
-          going-on standardRuler count room fuel program tt l₀ o₀ (wordAt program i) (operandAt program i) m tt l o _ here
+          going-on standardRuler count env fuel program tt l₀ o₀ (wordAt program i) (operandAt program i) m tt l o _ here
           _ push-goes (went over carriedOut) o refl refl in
           let at = ap (λ z. indexOf z count) push-place ∙ index-after (m .pc .0) count i few e (ltb-true (i + 1) count b) in
           record {
             since = omega arith;
-            acting = going-at standardRuler count room fuel program tt l₀ o₀ over tt (lent stack (l .cells)) o _
+            acting = going-at standardRuler count env fuel program tt l₀ o₀ over tt (lent stack (l .cells)) o _
                 (rw (one-less fuel left h k) at on) (omega (arith, ltb-true 1 left f)) (i + 1) at;
           }
 

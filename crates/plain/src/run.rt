@@ -12,7 +12,7 @@ ghost use lib.ListN.{length};
 ghost use Rattle.word.specs.Number.{indexOf};
 ghost use Rattle.stack.specs.Words.{started};
 ghost use Rattle.step.specs.Lent.{cells, lent};
-ghost use Rattle.engine.specs.Memory.{output};
+ghost use Rattle.engine.specs.Memory.{output, environment};
 ghost use Rattle.engine.specs.Loop.{done, loopOf};
 ghost use Rattle.plain.specs.Ruler.{standardRuler};
 ghost use Rattle.plain.specs.Next.{ready, nextOf};
@@ -76,6 +76,7 @@ fn next(count: usize, program: &[i64], i: usize, m: Machine, left: u64, stack: &
 pub(crate) fn go(
     count: usize,
     room: usize,
+    clearances: &[i64],
     fuel: u64,
     program: &[i64],
     stack: &mut [i64],
@@ -91,7 +92,7 @@ pub(crate) fn go(
     ensures { λ r. ⌜ done r tt
         (lent (now (stack .exit)) (cells (now (values .exit)) (now (labels .exit))))
         (output (now (numbers .exit)) (now («line_labels» .exit)) (now (kinds .exit)) (now (pages .exit)))
-        ≡ loopOf standardRuler count room (now (program .entry)) fuel 0 started tt
+        ≡ loopOf standardRuler count (environment room (now (clearances .entry))) (now (program .entry)) fuel 0 started tt
         (lent (now (stack .entry)) (cells (now (values .entry)) (now (labels .entry))))
         (output (now (numbers .entry)) (now («line_labels» .entry)) (now (kinds .entry)) (now (pages .entry))) ⌝ }
 {
@@ -112,7 +113,16 @@ pub(crate) fn go(
                 left = n.left;
                 let before = n.machine;
                 let r = act(n.word, n.operand, before, stack, values, labels);
-                let w = engine::emit(before, r, room, numbers, line_labels, kinds, pages);
+                let w = engine::emit(
+                    before,
+                    r,
+                    room,
+                    clearances,
+                    numbers,
+                    line_labels,
+                    kinds,
+                    pages,
+                );
                 let machine = w.machine;
                 let stop = w.stop;
                 if stop != CARRIED {
@@ -126,7 +136,17 @@ pub(crate) fn go(
                 left -= 1;
             }
             Index::Outside => {
-                let w = engine::end_or(m, count, 2, room, numbers, line_labels, kinds, pages);
+                let w = engine::end_or(
+                    m,
+                    count,
+                    2,
+                    room,
+                    clearances,
+                    numbers,
+                    line_labels,
+                    kinds,
+                    pages,
+                );
                 let machine = w.machine;
                 return Ran {
                     machine,
@@ -136,7 +156,17 @@ pub(crate) fn go(
             }
         }
     }
-    let w = engine::end_or(m, count, 1, room, numbers, line_labels, kinds, pages);
+    let w = engine::end_or(
+        m,
+        count,
+        1,
+        room,
+        clearances,
+        numbers,
+        line_labels,
+        kinds,
+        pages,
+    );
     let machine = w.machine;
     Ran {
         machine,

@@ -15,4 +15,5 @@ fn main() {
     stops::entries();
     stops::full();
     stops::sums();
+    stops::closed();
 }

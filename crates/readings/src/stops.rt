@@ -1,5 +1,7 @@
-// Every stop from 0 to 9.
+// Every stop from 0 to 10.
+use crate::trial::on_pages;
 use crate::trial::on_two;
+use engine::Clearances;
 
 // Stops 0 to 2: the allowance and the place.
 pub(crate) fn places() {
@@ -96,6 +98,47 @@ pub(crate) fn sums() {
     on_two(
         b"stop 9, -2^63 plus -1: ",
         b"\x05\xff\xff\xff\xff\xff\xff\xff\xff\x05\0\0\0\0\0\0\0\x80\x01\x04",
+        5,
+        1000,
+    );
+}
+
+// Every page is cleared for all owners but this one, whose clearance word is another.
+fn all_but(page: usize, word: i64) -> Clearances {
+    let mut words = [4294967295i64; 16];
+    if page < 16 {
+        words[page] = word;
+    }
+    Clearances { words, count: 16 }
+}
+
+// Stop 10: cell 1 is owner 0's, and page 1 is closed to him, or cleared for him alone; then an end line, at a place of his, on page 0.
+// Clearances that are refused.
+pub(crate) fn closed() {
+    let pages = b"\x05\0\0\0\0\0\0\0\0\x06\x04\x05\x01\0\0\0\0\0\0\0\x06\x0c\x01";
+    on_pages(b"stop 10, OutputTo 1: ", pages, all_but(1, 2), 5, 1000);
+    on_pages(b"OutputTo 1, cleared: ", pages, all_but(1, 1), 5, 1000);
+    let end = b"\x05\x01\0\0\0\0\0\0\0\x06\x09\x01\0";
+    on_pages(b"stop 10, the end line: ", end, all_but(0, 2), 5, 1000);
+    on_pages(
+        b"stop 10, and the allowance is spent: ",
+        end,
+        all_but(0, 2),
+        5,
+        3,
+    );
+    on_pages(
+        b"a clearance of 2^32: ",
+        b"",
+        all_but(15, 4294967296),
+        5,
+        1000,
+    );
+    let words = [0i64; 16];
+    on_pages(
+        b"17 clearances: ",
+        b"",
+        Clearances { words, count: 17 },
         5,
         1000,
     );

@@ -2,6 +2,7 @@
 use crate::memory::digest;
 use crate::print;
 use engine::Answer;
+use engine::Clearances;
 use engine::Line;
 use engine::Ran;
 use machine::Kind;
@@ -106,7 +107,14 @@ fn lent(
 }
 
 // The tag engine under the standard table, with space for 257 commands, the handler and three lines.
-fn on(sheet: &[u8], values: &mut [i64], labels: &mut [i64], cache: Cache, fuel: u64) {
+fn on(
+    sheet: &[u8],
+    values: &mut [i64],
+    labels: &mut [i64],
+    clearances: Clearances,
+    cache: Cache,
+    fuel: u64,
+) {
     let table = policy::standard_table::bytes();
     let mut program = [-7i64; 514];
     let mut stack = [-7i64; 768];
@@ -132,6 +140,7 @@ fn on(sheet: &[u8], values: &mut [i64], labels: &mut [i64], cache: Cache, fuel: 
         sheet,
         values,
         labels,
+        clearances,
         &table,
         cache,
         &mut program,
@@ -160,7 +169,13 @@ fn on(sheet: &[u8], values: &mut [i64], labels: &mut [i64], cache: Cache, fuel: 
 }
 
 // The plain engine, so too.
-fn plainly(sheet: &[u8], values: &mut [i64], labels: &mut [i64], fuel: u64) {
+fn plainly(
+    sheet: &[u8],
+    values: &mut [i64],
+    labels: &mut [i64],
+    clearances: Clearances,
+    fuel: u64,
+) {
     print::text(b"  plain engine: ");
     let mut program = [-7i64; 514];
     let mut stack = [-7i64; 768];
@@ -182,6 +197,7 @@ fn plainly(sheet: &[u8], values: &mut [i64], labels: &mut [i64], fuel: u64) {
         sheet,
         values,
         labels,
+        clearances,
         &mut program,
         &mut stack,
         &mut numbers,
@@ -212,21 +228,34 @@ fn plainly(sheet: &[u8], values: &mut [i64], labels: &mut [i64], fuel: u64) {
 }
 
 // Both on document 01's two cells, the second with another number where wanted.
-pub(crate) fn on_two(name: &[u8], sheet: &[u8], second: i64, fuel: u64) {
+pub(crate) fn on_pages(name: &[u8], sheet: &[u8], clearances: Clearances, second: i64, fuel: u64) {
     print::text(name);
     on(
         sheet,
         &mut [7i64, second],
         &mut [0i64, 1],
+        clearances,
         Cache::empty(),
         fuel,
     );
-    plainly(sheet, &mut [7i64, second], &mut [0i64, 1], fuel);
+    plainly(sheet, &mut [7i64, second], &mut [0i64, 1], clearances, fuel);
+}
+
+// With every page cleared for all owners.
+pub(crate) fn on_two(name: &[u8], sheet: &[u8], second: i64, fuel: u64) {
+    on_pages(name, sheet, Clearances::all(), second, fuel);
 }
 
 // From a rule memory.
 pub(crate) fn on_row(name: &[u8], sheet: &[u8], words: [i64; 7]) {
     print::text(name);
     let cache = Cache { words };
-    on(sheet, &mut [7i64, 5], &mut [0i64, 1], cache, 1000);
+    on(
+        sheet,
+        &mut [7i64, 5],
+        &mut [0i64, 1],
+        Clearances::all(),
+        cache,
+        1000,
+    );
 }

@@ -14,7 +14,7 @@ use Rattle.machine.specs.Atom.{Line}
 use Rattle.machine.specs.Page.{OnPages}
 use Rattle.machine.proofs.Page.{decoded-pages, pages-kept}
 use Rattle.step.specs.Lent.{Cells}
-use Rattle.engine.specs.Memory.{Memory, room}
+use Rattle.engine.specs.Memory.{Memory, surroundings, allCleared}
 use Rattle.engine.specs.Layout.{linePages, cellsOf}
 use Rattle.engine.specs.Ended.{resultOf}
 use Rattle.engine.proofs.Accepted.{start-fine}
@@ -49,19 +49,19 @@ module _ (c : Cells) (allowance : ℕ) (sheet : List ℕ) (bytes : Bytes sheet) 
   m = lentFor c
 
   abbrev PagesIn : Decoded → Type 0
-  PagesIn d = PageWords (taggedOf d (readTable standardBytes) (zeros 7) m handlerSpace allowance .ended .memory .output .pages)
+  PagesIn d = PageWords (taggedOf d (readTable standardBytes) (zeros 7) allCleared m handlerSpace allowance .ended .memory .output .pages)
 
   pub end-pages : PageWords (endFor c allowance sheet .ended .memory .output .pages)
   unfolding tagged
-  end-pages = by (startTagged sheet (readTable standardBytes) (zeros 7) m handlerSpace allowance) refl
+  end-pages = by (startTagged sheet (readTable standardBytes) (zeros 7) allCleared m handlerSpace allowance) refl
     where
-      by : (d : Decoded) → startTagged sheet (readTable standardBytes) (zeros 7) m handlerSpace allowance ≡ d → PagesIn d
+      by : (d : Decoded) → startTagged sheet (readTable standardBytes) (zeros 7) allCleared m handlerSpace allowance ≡ d → PagesIn d
       by (refused r) e = zero-pages 1024
       by (accepted cs) e =
           let own = ownOf (readTable standardBytes) (zeros 7) (length handlerSpace) in
-          let fine = start-fine sheet m allowance own cs e in
+          let fine = start-fine sheet allCleared m allowance own cs e in
           let ρ = tagRuler (handlerOf (readTable standardBytes)) in
-          laid-pages (resultOf ρ cs (tagOf (zeros 7)) m allowance .state .lines) (zeros 1024)
-          (pages-kept Tag ρ (room (m .output)) cs
+          laid-pages (resultOf ρ cs (tagOf (zeros 7)) allCleared m allowance .state .lines) (zeros 1024)
+          (pages-kept Tag ρ (surroundings allCleared (m .output)) cs
           (decoded-pages sheet cs bytes (fine .decoded)) allowance (cellsOf c) (tagOf (zeros 7)))
           (zero-pages 1024)

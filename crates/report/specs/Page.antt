@@ -9,7 +9,7 @@ use Rattle.word.specs.Lay.{laid}
 use Rattle.step.specs.Lent.{Cells, cells, lent}
 use Rattle.engine.specs.declared.Answer.{Answer}
 use Rattle.engine.specs.declared.Answer.the-variants.{Refused, Stopped}
-use Rattle.engine.specs.Memory.{Output, output, Memory, memory}
+use Rattle.engine.specs.Memory.{allCleared, Output, output, Memory, memory}
 use Rattle.engine.specs.Layout.{linesOf}
 use Rattle.engine.specs.Ended.{Ended}
 use Rattle.policy.specs.Standard.{standardBytes}
@@ -34,7 +34,7 @@ handlerSpace = zeros (2 * 152)
 
 -- the tag engine, standard table and empty rule memory
 abbrev pub endFor : Cells → (allowance : ℕ) → List ℕ → Left
-endFor c allowance bytes = tagged bytes standardBytes (zeros 7) (lentFor c) handlerSpace allowance
+endFor c allowance bytes = tagged bytes standardBytes (zeros 7) allCleared (lentFor c) handlerSpace allowance
 
 -- a refusal prints only itself; else the lines written that the reader may see
 abbrev pub answerText : (reader : ℕ) → Answer → Output → List ℕ

@@ -3,6 +3,7 @@ pub mod job;
 mod print;
 
 use engine::Answer;
+use engine::Clearances;
 use job::Job;
 use job::Said;
 use label::Label;
@@ -24,7 +25,7 @@ pub enum Outcome {
     Short,
 }
 
-// Runs a sheet on its cells, in space of its own, and prints what the reader may see.
+// Runs a sheet on its cells, in space of its own, with every page cleared for all owners, and prints what the reader may see.
 fn run(
     sheet: &[u8],
     values: &mut [i64],
@@ -49,6 +50,7 @@ fn run(
         sheet,
         values,
         labels,
+        Clearances::all(),
         &table,
         Cache::empty(),
         &mut program,

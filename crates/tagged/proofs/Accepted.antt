@@ -17,10 +17,11 @@ use Rattle.program.specs.declared.Checked.the-variants as Checked
 use Rattle.program.specs.Decode.{Decoded, refused, accepted, checkAnswer}
 use Rattle.program.specs.Space.{programWords}
 use Rattle.stack.specs.Words.{started}
+use Rattle.engine.specs.declared.Clearances.{Clearances}
 use Rattle.engine.specs.declared.Answer.the-variants as Answer
 use Rattle.engine.specs.declared.start.Limit.the-variants.{Kept}
 use Rattle.engine.specs.declared.start.Own.{Own}
-use Rattle.engine.specs.Memory.{Memory, memory, room}
+use Rattle.engine.specs.Memory.{Memory, memory, surroundings}
 use Rattle.engine.specs.Loop.{Done, loopOf}
 use Rattle.engine.specs.Ended.{ended}
 use Rattle.engine.proofs.Accepted.{test-kept, answer, Fine, start-fine, refused-is, loop-whole}
@@ -50,12 +51,12 @@ table-kept (table t) e = (t, refl)
 pub handler-few : (bytes : List ℕ) (t : Table) → readTable bytes ≡ table t → length (translate t) ≤ 8192
 handler-few bytes t q = handler-length t (read-writable bytes t q)
 
-module _ (sheet bytes : List ℕ) (row : List ℤ) (m : Memory) (handler : List ℤ) (fuel : ℕ) where
+module _ (sheet bytes : List ℕ) (row : List ℤ) (c : Clearances) (m : Memory) (handler : List ℤ) (fuel : ℕ) where
   abbrev own : Own
   own = ownOf (readTable bytes) row (length handler)
 
   abbrev began : Decoded
-  began = answer sheet m fuel own
+  began = answer sheet c m fuel own
 
   -- ══════════════════════════════════════════════════════════════════════════════════════════
   -- An accepted start
@@ -63,14 +64,14 @@ module _ (sheet bytes : List ℕ) (row : List ℤ) (m : Memory) (handler : List 
 
   -- what is known of it
   pub record Ready (cs : List Command) (t : Table) : Type 0 where
-    pub fine : Fine sheet m fuel own cs
+    pub fine : Fine sheet c m fuel own cs
     pub rules : readTable bytes ≡ table t
     pub keptRow : acceptedRow t row ≡ true
     pub fits : 2 * length (translate t) ≤ length handler
 
   pub start-ready : (cs : List Command) → began ≡ accepted cs → (t : Table) × Ready cs t
   start-ready cs e =
-      let f = start-fine sheet m fuel own cs e in
+      let f = start-fine sheet c m fuel own cs e in
       let (t, q) = table-kept (readTable bytes) (f .rules) in
       let w = f .row in
       let h = f .handler in (
@@ -88,9 +89,9 @@ module _ (sheet bytes : List ℕ) (row : List ℤ) (m : Memory) (handler : List 
   -- ══════════════════════════════════════════════════════════════════════════════════════════
 
   pub execute-refused : (r : Refusal) → Checked.Refused r ≡ checkAnswer began
-      → left (ended (Answer.Refused r) (tagOf row) m) handler ≡ tagged sheet bytes row m handler fuel
+      → left (ended (Answer.Refused r) (tagOf row) m) handler ≡ tagged sheet bytes row c m handler fuel
   unfolding tagged
-  execute-refused r e = ap₂ left (refused-is sheet m fuel own (tagRuler (handlerOf (readTable bytes))) (tagOf row) r e) (kept began e)
+  execute-refused r e = ap₂ left (refused-is sheet c m fuel own (tagRuler (handlerOf (readTable bytes))) (tagOf row) r e) (kept began e)
     where
       kept : (d : Decoded) → Checked.Refused r ≡ checkAnswer d → handler ≡ handlerAfter d (readTable bytes) handler
       kept (refused q) e = refl
@@ -101,15 +102,15 @@ module _ (sheet bytes : List ℕ) (row : List ℤ) (m : Memory) (handler : List 
     pub execute-accepted : (count : ℕ) → count ≡ length cs → (program space : List ℤ) (n : ℕ)
         → program ≡ laid (programWords cs) (m .program) → space ≡ laid (kernelWords (translate t)) handler → n ≡ length (translate t)
         → (d : Done Tag)
-        → d ≡ loopOf (tagWords (handleSpace space n)) count (room (m .output)) program fuel 0 started (tagOf row) (m .lent) (m .output)
+        → d ≡ loopOf (tagWords (handleSpace space n)) count (surroundings c (m .output)) program fuel 0 started (tagOf row) (m .lent) (m .output)
         → left (ended (Answer.Stopped (d .ran)) (d .ruler) (memory program (d .lent) (d .output))) space
-        ≡ tagged sheet bytes row m handler fuel
+        ≡ tagged sheet bytes row c m handler fuel
     unfolding tagged
     execute-accepted count k program space n p h size d g =
         let handles : (x : List ℤ) → handleSpace space n x ≡ handle (translate t) x =
         λ x. ap₂ (λ y z. handleSpace y z x) h size ∙ handleSpace-laid (translate t) handler x in
         ap₂ left
-        (loop-whole sheet m fuel own octets cs (ready .fine) (tagWords (handleSpace space n)) (tagRuler (translate t))
+        (loop-whole sheet c m fuel own octets cs (ready .fine) (tagWords (handleSpace space n)) (tagRuler (translate t))
         (tag-follows (handleSpace space n) (translate t) handles) (rules-range (translate t)) (tagOf row) count k program p d g)
         h
-        ∙ sym (ap₂ (λ d q. taggedOf d q row m handler fuel) is (ready .rules))
+        ∙ sym (ap₂ (λ d q. taggedOf d q row c m handler fuel) is (ready .rules))

@@ -11,6 +11,7 @@ use lib.Dec.{leb, ltb}
 use Rattle.program.specs.Command.{ruled}
 use Rattle.program.specs.declared.Refusal.{Refusal}
 use Rattle.program.specs.Decode.{refusal}
+use Rattle.engine.specs.declared.Clearances.{Clearances}
 use Rattle.engine.specs.declared.Answer.the-variants as Answer
 use Rattle.engine.specs.Memory.{Memory}
 use Rattle.engine.specs.Start.{given}
@@ -48,9 +49,9 @@ own-numbered bytes row space =
       handler = kept-numbered (leb (2 * length (handlerOf (readTable bytes))) space) 8 3 (omega arith);
     }
 
-pub tagged-numbered : (sheet bytes : List ℕ) (row : List ℤ) (m : Memory) (handler : List ℤ) (fuel : ℕ) (q : Refusal)
-    → tagged sheet bytes row m handler fuel .ended .answer ≡ Answer.Refused q → 1 ≤ q .code
+pub tagged-numbered : (sheet bytes : List ℕ) (row : List ℤ) (c : Clearances) (m : Memory) (handler : List ℤ) (fuel : ℕ) (q : Refusal)
+    → tagged sheet bytes row c m handler fuel .ended .answer ≡ Answer.Refused q → 1 ≤ q .code
 unfolding tagged
-tagged-numbered sheet bytes row m handler fuel q e =
-    answer-numbered (tagRuler (handlerOf (readTable bytes))) (startTagged sheet (readTable bytes) row m handler fuel) (tagOf row) m fuel
-    (start-numbered (m .lent .cells .labels) (given m fuel) _ (own-numbered bytes row (length handler)) sheet) q e
+tagged-numbered sheet bytes row c m handler fuel q e =
+    answer-numbered (tagRuler (handlerOf (readTable bytes))) (startTagged sheet (readTable bytes) row c m handler fuel) (tagOf row) c m fuel
+    (start-numbered (m .lent .cells .labels) c (given m fuel) _ (own-numbered bytes row (length handler)) sheet) q e

@@ -7,6 +7,7 @@ use lib.IntN.{ℤ}
 use lib.ListN.{length}
 use Rattle.word.specs.Lay.{laid}
 use Rattle.program.specs.Decode.{Decoded, refused, accepted}
+use Rattle.engine.specs.declared.Clearances.{Clearances}
 use Rattle.engine.specs.declared.Ran.{Ran}
 use Rattle.engine.specs.declared.Answer.the-variants as Answer
 use Rattle.engine.specs.Memory.{Memory}
@@ -43,21 +44,22 @@ handlerAfter (refused r) rules space = space
 handlerAfter (accepted cs) rules space = laid (kernelWords (handlerOf rules)) space
 
 -- what the start comes to
-abbrev pub startTagged : List ℕ → ReadTable → List ℤ → Memory → List ℤ → ℕ → Decoded
-startTagged sheet rules row m handler fuel = startOf sheet (m .lent .cells .labels) (given m fuel) (ownOf rules row (length handler))
+abbrev pub startTagged : List ℕ → ReadTable → List ℤ → Clearances → Memory → List ℤ → ℕ → Decoded
+startTagged sheet rules row c m handler fuel =
+    startOf sheet (m .lent .cells .labels) c (given m fuel) (ownOf rules row (length handler))
 
-abbrev pub taggedOf : Decoded → ReadTable → List ℤ → Memory → List ℤ → ℕ → Left
-taggedOf d rules row m handler fuel =
-    left (engineOf (tagRuler (handlerOf rules)) d (tagOf row) m fuel) (handlerAfter d rules handler)
+abbrev pub taggedOf : Decoded → ReadTable → List ℤ → Clearances → Memory → List ℤ → ℕ → Left
+taggedOf d rules row c m handler fuel =
+    left (engineOf (tagRuler (handlerOf rules)) d (tagOf row) c m fuel) (handlerAfter d rules handler)
 
--- of the sheet, the table's bytes, the rule memory, the lent runs, the handler space and the allowance
-unfoldable pub tagged : List ℕ → List ℕ → List ℤ → Memory → List ℤ → ℕ → Left
-tagged sheet bytes row m handler fuel =
-    let rules : ReadTable = readTable bytes in taggedOf (startTagged sheet rules row m handler fuel) rules row m handler fuel
+-- of the sheet, the table's bytes, the rule memory, the clearances, the lent runs, the handler space and the allowance
+unfoldable pub tagged : List ℕ → List ℕ → List ℤ → Clearances → Memory → List ℤ → ℕ → Left
+tagged sheet bytes row c m handler fuel =
+    let rules : ReadTable = readTable bytes in taggedOf (startTagged sheet rules row c m handler fuel) rules row c m handler fuel
 
 -- what is promised where the bytes are a table: its handler is as asked (Sound of the handler crate), and after a run it lies in its space;
 -- and demand 2, answer and lent runs are those of reading the table directly
-abbrev pub Promises : List ℕ → List ℕ → Memory → List ℤ → ℕ → Left → Type 0
-Promises sheet bytes m handler fuel x =
+abbrev pub Promises : List ℕ → List ℕ → Clearances → Memory → List ℤ → ℕ → Left → Type 0
+Promises sheet bytes c m handler fuel x =
     Handles (readTable bytes) (λ t code. (r : Ran) → x .ended .answer ≡ Answer.Stopped r
-    → (x .handler ≡ laid (kernelWords code) handler) × SameEnd (x .ended) (directly (evaluate t) sheet m fuel))
+    → (x .handler ≡ laid (kernelWords code) handler) × SameEnd (x .ended) (directly (evaluate t) sheet c m fuel))

@@ -5,6 +5,7 @@ mod run;
 mod start;
 
 use engine::Answer;
+use engine::Clearances;
 use engine::start::Given;
 use policy::row::Cache;
 use program::Checked;
@@ -21,13 +22,14 @@ pub struct Tagged {
     pub kernel: u64,
 }
 
-// Checks everything, and then runs the sheet on the lent cells to one named stop, under the rules of the table. A refusal, of 1 to 9 or 12
-// with its place, leaves every lent run and the rule memory as they came. The run is that of reading the table directly, by a handler
+// Checks everything, and then runs the sheet on the lent cells to one named stop, under the rules of the table. A refusal, of 1 to 9, 12 or
+// 13 with its place, leaves every lent run and the rule memory as they came. The run is that of reading the table directly, by a handler
 // that never fails.
 pub fn execute(
     sheet: &[u8],
     values: &mut [i64],
     labels: &mut [i64],
+    clearances: Clearances,
     table: &[u8],
     cache: Cache,
     program: &mut [i64],
@@ -43,11 +45,11 @@ pub fn execute(
         (memory (now (program .exit)) (lent (now (stack .exit)) (cells (now (values .exit)) (now (labels .exit))))
         (output (now (numbers .exit)) (now («line_labels» .exit)) (now (kinds .exit)) (now (pages .exit)))))
         (now (handler .exit))
-        ≡ tagged (now (sheet .entry)) (now (table .entry)) (cache .words)
+        ≡ tagged (now (sheet .entry)) (now (table .entry)) (cache .words) clearances
         (memory (now (program .entry)) (lent (now (stack .entry)) (cells (now (values .entry)) (now (labels .entry))))
         (output (now (numbers .entry)) (now («line_labels» .entry)) (now (kinds .entry)) (now (pages .entry))))
         (now (handler .entry)) fuel ⌝ }
-    ensures rules { λ r. ⌜ Promises (now (sheet .entry)) (now (table .entry))
+    ensures rules { λ r. ⌜ Promises (now (sheet .entry)) (now (table .entry)) clearances
         (memory (now (program .entry)) (lent (now (stack .entry)) (cells (now (values .entry)) (now (labels .entry))))
         (output (now (numbers .entry)) (now («line_labels» .entry)) (now (kinds .entry)) (now (pages .entry))))
         (now (handler .entry)) fuel
@@ -64,7 +66,7 @@ pub fn execute(
         stack: stack.len(),
         fuel,
     };
-    let checked = engine::start::check(sheet, labels, given, rules.own);
+    let checked = engine::start::check(sheet, labels, clearances, given, rules.own);
     match checked {
         Checked::Refused(r) => Tagged {
             answer: Answer::Refused(r),
@@ -76,9 +78,11 @@ pub fn execute(
             program::write(sheet, program);
             translator::write(table, handler);
             let room = engine::room(numbers.len(), line_labels.len(), kinds.len(), pages.len());
+            let words = clearances.words;
             let end = run::go(
                 count,
                 room,
+                &words,
                 fuel,
                 program,
                 handler,

@@ -13,7 +13,7 @@ ghost use mathlib.Core.Path.{_≡_};
 ghost use Prim.Native.Nat.{_≤_};
 ghost use Rattle.stack.specs.Words.{started};
 ghost use Rattle.step.specs.Lent.{cells, lent, after};
-ghost use Rattle.engine.specs.Memory.{output};
+ghost use Rattle.engine.specs.Memory.{output, environment};
 ghost use Rattle.engine.specs.Act.{acted, actOf};
 ghost use Rattle.engine.specs.Loop.{ran, done, loopOf};
 ghost use Rattle.handler.specs.Space.{handleSpace};
@@ -115,6 +115,7 @@ fn ended(machine: Machine, stop: u64, steps: u64, cache: Cache, faults: u64, ker
 pub(crate) fn go(
     count: usize,
     room: usize,
+    clearances: &[i64],
     fuel: u64,
     program: &[i64],
     space: &[i64],
@@ -132,7 +133,7 @@ pub(crate) fn go(
     ensures { λ r. ⌜ done (r .ran) (tag (r .cache .words) (r .faults) (r .kernel))
         (lent (now (stack .exit)) (cells (now (values .exit)) (now (labels .exit))))
         (output (now (numbers .exit)) (now («line_labels» .exit)) (now (kinds .exit)) (now (pages .exit)))
-        ≡ loopOf (tagWords (handleSpace (now (space .entry)) size)) count room (now (program .entry)) fuel 0 started
+        ≡ loopOf (tagWords (handleSpace (now (space .entry)) size)) count (environment room (now (clearances .entry))) (now (program .entry)) fuel 0 started
         (tag (memory .words) 0 0)
         (lent (now (stack .entry)) (cells (now (values .entry)) (now (labels .entry))))
         (output (now (numbers .entry)) (now («line_labels» .entry)) (now (kinds .entry)) (now (pages .entry))) ⌝ }
@@ -150,7 +151,16 @@ pub(crate) fn go(
                 let operand = word::memory::at(program, 2 * i + 1);
                 let r = act(space, size, word, operand, m, cache, stack, values, labels);
                 let stepped = r.stepped;
-                let w = engine::emit(m, stepped, room, numbers, line_labels, kinds, pages);
+                let w = engine::emit(
+                    m,
+                    stepped,
+                    room,
+                    clearances,
+                    numbers,
+                    line_labels,
+                    kinds,
+                    pages,
+                );
                 m = w.machine;
                 cache = r.cache;
                 faults += r.faults;
@@ -162,13 +172,33 @@ pub(crate) fn go(
                 steps += 1;
             }
             Index::Outside => {
-                let w = engine::end_or(m, count, 2, room, numbers, line_labels, kinds, pages);
+                let w = engine::end_or(
+                    m,
+                    count,
+                    2,
+                    room,
+                    clearances,
+                    numbers,
+                    line_labels,
+                    kinds,
+                    pages,
+                );
                 let machine = w.machine;
                 return ended(machine, w.stop, steps, cache, faults, kernel);
             }
         }
     }
-    let w = engine::end_or(m, count, 1, room, numbers, line_labels, kinds, pages);
+    let w = engine::end_or(
+        m,
+        count,
+        1,
+        room,
+        clearances,
+        numbers,
+        line_labels,
+        kinds,
+        pages,
+    );
     let machine = w.machine;
     ended(machine, w.stop, steps, cache, faults, kernel)
 }

@@ -10,6 +10,7 @@ use lib.ListN.{length}
 use Rattle.program.specs.declared.Command.{Command}
 use Rattle.machine.specs.Rule.{rules}
 use Rattle.machine.specs.State.{State}
+use Rattle.machine.specs.Environment.{Environment}
 use Rattle.machine.specs.Step.{Outcome, stopped, stepped, Request, halt, ask, request, keyOf, execute}
 use Rattle.machine.specs.Run.{step, askedBy, asked, run}
 use Rattle.machine.proofs.Execute.{Sound, execute-sound}
@@ -43,30 +44,30 @@ module _ (handler : List Instruction) where
   request-grows c s u (halt x) = grows-none u
   request-grows c s u (ask l1 l2 l3 k) = consult-grows u (fiveOf (keyOf c s l1 l2 l3))
 
-  module _ (room : ℕ) (cs : List Command) where
+  module _ (env : Environment) (cs : List Command) where
     -- with one step more where the command is carried out
     abbrev Counting : State → Tag → Outcome → Tag → Type 0
     Counting s u o w = Grows (length handler) u w × Gives (λ v. v .steps ≡ suc (s .steps)) o
 
-    step-grows : (s : State) (u : Tag) → Counting s u (step (rules (tagRuler handler) u) room cs s) (asked (tagRuler handler) room cs s u)
+    step-grows : (s : State) (u : Tag) → Counting s u (step (rules (tagRuler handler) u) env cs s) (asked (tagRuler handler) env cs s u)
     step-grows s u =
-        step-both (tagRuler handler) (rules (tagRuler handler) u) room s u (Counting s u) cs
+        step-both (tagRuler handler) (rules (tagRuler handler) u) env s u (Counting s u) cs
         (λ c at. (
-          request-grows c s u (request room c s),
-          steps c (execute (rules (tagRuler handler) u) room c s) (execute-sound (rules (tagRuler handler) u) room c s),
+          request-grows c s u (request env c s),
+          steps c (execute (rules (tagRuler handler) u) env c s) (execute-sound (rules (tagRuler handler) u) env c s),
         ))
         (λ out. (grows-none u, tt))
       where
-        steps : (c : Command) (o : Outcome) → Sound (rules (tagRuler handler) u) room c s o → Gives (λ v. v .steps ≡ suc (s .steps)) o
+        steps : (c : Command) (o : Outcome) → Sound (rules (tagRuler handler) u) env c s o → Gives (λ v. v .steps ≡ suc (s .steps)) o
         steps c (stopped x) h = tt
         steps c (stepped v) h = h .steps
 
     -- the counts of a run: its faults are among its commands, each of them within the handler's length
-    pub tag-counts : (fuel : ℕ) (s : State) (u : Tag) → Adds (length handler) s u (run (tagRuler handler) room cs fuel s u)
+    pub tag-counts : (fuel : ℕ) (s : State) (u : Tag) → Adds (length handler) s u (run (tagRuler handler) env cs fuel s u)
     tag-counts =
-        run-induction (tagRuler handler) room cs (λ fuel s u r. Adds (length handler) s u r)
+        run-induction (tagRuler handler) env cs (λ fuel s u r. Adds (length handler) s u r)
         (λ fuel s u e f. record { more = 0; faults = omega arith; most = omega arith; kernelSteps = omega arith })
-        (λ fuel s u e f. record { more = 0; faults = omega arith; most = omega arith; kernelSteps = omega arith })
+        (λ fuel s u x e f. record { more = 0; faults = omega arith; most = omega arith; kernelSteps = omega arith })
         (λ s u e. record { more = 0; faults = omega arith; most = omega arith; kernelSteps = omega arith })
         (λ fuel s u x e g.
         let (h, k) = step-grows s u in

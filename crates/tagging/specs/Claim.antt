@@ -10,6 +10,7 @@ use lib.ListN.{length}
 use Rattle.program.specs.declared.Command.{Command}
 use Rattle.machine.specs.Rule.{Key, denied, Policy, fixed}
 use Rattle.machine.specs.State.{State, Stop}
+use Rattle.machine.specs.Environment.{Environment}
 use Rattle.machine.specs.Step.{Request, halt, ask, request, keyOf}
 use Rattle.machine.specs.Run.{Result, run, Same}
 use Rattle.machine.specs.Stopped.{Here, denies}
@@ -47,10 +48,10 @@ abbrev pub Faulted : Table → Command → State → List ℤ → Request → Ty
 Faulted t c s ws (halt x) = ⊥
 Faulted t c s ws (ask l1 l2 l3 k) = (evaluate t (keyOf c s l1 l2 l3) ≡ denied) × (ws ≡ faultRow (keyOf c s l1 l2 l3))
 
-module _ (t : Table) (room : ℕ) (cs : List Command) where
+module _ (t : Table) (env : Environment) (cs : List Command) where
   -- the row that a run leaves: stop 6 leaves the −1 pair of the command at the place, every other stop an accepted row
   abbrev pub LeavesIf : Bool → State → List ℤ → Type 0
-  LeavesIf true s ws = Here cs s (λ c. Faulted t c s ws (request room c s))
+  LeavesIf true s ws = Here cs s (λ c. Faulted t c s ws (request env c s))
   LeavesIf false s ws = Fits t ws
 
   abbrev pub Leaves : Stop → State → List ℤ → Type 0
@@ -66,14 +67,14 @@ pub record Adds (limit : ℕ) (s : State) (u : Tag) (r : Result Tag) : Type 0 wh
 
 -- with the handler of t, the run is the machine's under the policy π: lines, cells, stop, steps, place and stack, and every word of
 -- the stack space
-pub record Agrees (t : Table) (π : Policy) (room : ℕ) (cs : List Command) (fuel : ℕ) (s : State) (u : Tag) : Type 0 where
-  pub machine : Same (run (tagRuler (translate t)) room cs fuel s u) (run (fixed π) room cs fuel s tt)
-  pub stack : (space : List ℤ) → stackAfter (tagRuler (translate t)) room cs fuel s u space ≡ stackAfter (fixed π) room cs fuel s tt space
+pub record Agrees (t : Table) (π : Policy) (env : Environment) (cs : List Command) (fuel : ℕ) (s : State) (u : Tag) : Type 0 where
+  pub machine : Same (run (tagRuler (translate t)) env cs fuel s u) (run (fixed π) env cs fuel s tt)
+  pub stack : (space : List ℤ) → stackAfter (tagRuler (translate t)) env cs fuel s u space ≡ stackAfter (fixed π) env cs fuel s tt space
   pub row :
-      let r : Result Tag = run (tagRuler (translate t)) room cs fuel s u in Leaves t room cs (r .stop) (r .state) (r .ruler .row)
-  pub counts : Adds (length (translate t)) s u (run (tagRuler (translate t)) room cs fuel s u)
+      let r : Result Tag = run (tagRuler (translate t)) env cs fuel s u in Leaves t env cs (r .stop) (r .state) (r .ruler .row)
+  pub counts : Adds (length (translate t)) s u (run (tagRuler (translate t)) env cs fuel s u)
 
 -- from every state with labels in range and every accepted rule memory
 abbrev pub Claim : Table → Policy → Type 0
 Claim t π =
-    (room : ℕ) (cs : List Command) (fuel : ℕ) (s : State) (u : Tag) → LabelsInRange s → Fits t (u .row) → Agrees t π room cs fuel s u
+    (env : Environment) (cs : List Command) (fuel : ℕ) (s : State) (u : Tag) → LabelsInRange s → Fits t (u .row) → Agrees t π env cs fuel s u

@@ -34,7 +34,7 @@ putAll-comm a [] b ys s h = refl
 putAll-comm a (x ∷ xs) b ys s h =
     putAll-comm (suc a) xs b ys (set s a x) (omega arith) ∙ ap (putAll (suc a) xs) (putAll-set b ys s a x (omega arith))
 
-putAll-laidAt : (at : ℕ) (ws s : List ℤ) → at + length ws ≤ length s → putAll at ws s ≡ laidAt at ws s
+pub putAll-laidAt : (at : ℕ) (ws s : List ℤ) → at + length ws ≤ length s → putAll at ws s ≡ laidAt at ws s
 unfolding putAll
 putAll-laidAt at [] s h = sym (laidAt-nil at s)
 putAll-laidAt at (w ∷ ws) s h =

@@ -5,11 +5,12 @@ use crate::generate::{job, start, Start};
 use crate::random::Random;
 use crate::shrink::shrink;
 use crate::tally::Tally;
-use model::engine::{judged, tagged_noted, Handler, Lent};
+use model::engine::{judged, plain, tagged, tagged_noted, Handler, Lent, ALLOWANCE, CLEARED_FOR_ALL};
 use model::machine::{whole, Judge};
 use model::page::{page, read};
-use model::rules::{standard, Labels, Question, Table, STANDARD};
+use model::rules::{standard, Labels, Question, RuleMemory, Table, STANDARD};
 use model::sheet::Command;
+use model::Refusal;
 
 /// Which lent words differ, if any do.
 fn lent_difference(engine: &Lent, model: &Lent) -> Option<String> {
@@ -65,12 +66,26 @@ impl Judge for Noted<'_> {
     }
 }
 
+/// What would be refused of a start if every page were cleared for all owners, or 0; `run` is a run with this memory and
+/// allowance. It is asked where a start is refused by 13.
+fn later<T>(start: &Start, answer: &Answer, run: impl FnOnce(&mut Lent, u64) -> Result<T, Refusal>) -> u64 {
+    if answer.words[0] != 13 {
+        return 0;
+    }
+    // No step is needed to know.
+    let fuel = if start.fuel > ALLOWANCE { start.fuel } else { 0 };
+    run(&mut start.lent.clone(), fuel).err().map_or(0, |refusal| refusal.number)
+}
+
 fn compare_plain(backend: &dyn Backend, start: &Start, tally: &mut Tally) -> Result<(), String> {
+    let Start { sheet, clearances, fuel, .. } = start;
     let mut by_engine = start.lent.clone();
-    let engine = backend.plain(&start.sheet, &mut by_engine, start.fuel);
+    let engine = backend.plain(sheet, &mut by_engine, clearances, *fuel);
     let mut by_model = start.lent.clone();
-    let model = Answer::from(judged(&start.sheet, &mut by_model, start.fuel, &mut Noted(tally)));
+    let model = Answer::from(judged(sheet, &mut by_model, clearances, *fuel, &mut Noted(tally)));
     tally.plain.note(&model, start, &by_model);
+    let later = later(start, &model, |lent, fuel| plain(sheet, lent, &CLEARED_FOR_ALL, fuel));
+    tally.plain.clearances.note(&model, start, &by_model, later);
     same("plain", (engine, &by_engine), (model, &by_model))
 }
 
@@ -81,20 +96,30 @@ fn compare_tagged(backend: &dyn Backend, start: &Start, tally: &mut Tally) -> Re
     if is_table != (1..=model::kernel::COMMANDS).contains(&count) {
         return Err(format!("handler count {count}, table: {is_table}"));
     }
+    let Start { sheet, clearances, fuel, .. } = start;
     let mut by_engine = start.lent.clone();
-    let engine = backend.tagged(&start.sheet, &start.table, &mut by_engine, start.fuel);
+    let engine = backend.tagged(sheet, &start.table, &mut by_engine, clearances, *fuel);
     let mut by_model = start.lent.clone();
     // The handler is the engine's own: the model takes its words from where the engine left them.
     let words = &by_engine.handler[..(2 * count).min(by_engine.handler.len())];
     let handler = Handler { count, words };
-    let note = |memory: &_, question: &_| tally.consulted(memory, question);
-    let model = tagged_noted(&start.sheet, &start.table, handler, &mut by_model, start.fuel, note);
+    let mut matched = false;
+    let note = |memory: &RuleMemory, question: &Question| {
+        tally.consulted(memory, question);
+        matched = memory[..5] == question.words();
+    };
+    let model = tagged_noted(sheet, &start.table, handler, &mut by_model, clearances, *fuel, note);
     // Where the engine refused the start it left no handler.
     if let (0, Some(wrong)) = (engine.words[0], model.wrong) {
         return Err(format!("handler: {wrong:?}"));
     }
     let answer = Answer::from(model.answer);
     tally.tagged.note(&answer, start, &by_model);
+    let later = later(start, &answer, |lent, fuel| {
+        tagged(sheet, &start.table, handler, lent, &CLEARED_FOR_ALL, fuel).answer
+    });
+    tally.tagged.clearances.note(&answer, start, &by_model, later);
+    tally.tagged.clearances.note_tagged(&answer, start, &by_model, table.as_ref().ok(), later, matched);
     if answer.words[0] == 0 {
         if let (Ok(table), true) = (&table, start.table != STANDARD) {
             tally.other_table(table, count);
@@ -188,11 +213,12 @@ pub fn describe(start: &Start) -> String {
     let lent = &start.lent;
     let cells = lent.values.len().min(12);
     format!(
-        "  sheet {sheet}\n  table {:02x?}\n  values {:?}\n  labels {:?}\n  rule memory {:?}\n  lengths: cells {} {} program {} \
-         stack {} handler {} output {} {} {} {}\n  fuel {}",
+        "  sheet {sheet}\n  table {:02x?}\n  values {:?}\n  labels {:?}\n  clearances {:x?}\n  rule memory {:?}\n  lengths: \
+         cells {} {} program {} stack {} handler {} output {} {} {} {}\n  fuel {}",
         start.table,
         &lent.values[..cells],
         &lent.labels[..cells.min(lent.labels.len())],
+        start.clearances,
         lent.rule_memory,
         lent.values.len(),
         lent.labels.len(),

@@ -45,14 +45,14 @@ fn answer(raw: RawResult) -> Answer {
 }
 
 impl Backend for Engine {
-    fn plain(&self, sheet: &[u8], lent: &mut Lent, fuel: u64) -> Answer {
+    fn plain(&self, sheet: &[u8], lent: &mut Lent, clearances: &[i64], fuel: u64) -> Answer {
         let (lent, _, _) = lend(lent);
-        answer(luvrodan::plain_raw(sheet, lent, fuel))
+        answer(luvrodan::plain_raw(sheet, lent, clearances, fuel))
     }
 
-    fn tagged(&self, sheet: &[u8], table: &[u8], lent: &mut Lent, fuel: u64) -> Answer {
+    fn tagged(&self, sheet: &[u8], table: &[u8], lent: &mut Lent, clearances: &[i64], fuel: u64) -> Answer {
         let (lent, rule_memory, handler) = lend(lent);
-        answer(luvrodan::tagged_raw(sheet, lent, Tags { table, rule_memory, handler }, fuel))
+        answer(luvrodan::tagged_raw(sheet, lent, Tags { table, rule_memory, handler }, clearances, fuel))
     }
 
     fn handler_count(&self, table: &[u8]) -> u64 {

@@ -1,9 +1,12 @@
 //! Makes starts and jobs. Sheets are built of loops, calls, branches on hidden data and stores, so that runs go deep;
-//! then some of them are damaged, as are cells, tables, rule memories and spaces.
+//! then some of them are damaged, as are cells, clearances, tables, rule memories and spaces.
 
+pub mod clearances;
+
+use self::clearances::owner;
 use crate::random::Random;
-use model::engine::{plain, Lent, Report};
-use model::machine::Stop;
+use model::engine::{plain, Lent, Report, CLEARED_FOR_ALL};
+use model::machine::{Kind, Stop};
 use model::rules::{
     result_is_empty, LabelTree, Question, Rule, Table, YesNoTree, DEPTH, STANDARD, TABLE_BYTES,
 };
@@ -16,6 +19,7 @@ pub struct Start {
     pub sheet: Vec<u8>,
     pub table: Vec<u8>,
     pub lent: Lent,
+    pub clearances: Vec<i64>,
     pub fuel: u64,
 }
 
@@ -248,14 +252,27 @@ impl Builder<'_> {
         }
     }
 
-    /// Several values, and then as many lines one after the other, which may find one another's rows.
+    /// Several values, and then as many lines one after the other, which may find one another's rows; in some cases the
+    /// values are one cell's, and the pages decide which of them go.
     fn prints(&mut self) {
         let count = self.random.between(2, 4);
+        let one_cell = self.random.percent(40);
+        let address = self.address();
         for _ in 0..count {
-            self.value(0);
+            if one_cell {
+                self.put(Push(address));
+                self.put(Load);
+            } else {
+                self.value(0);
+            }
         }
         for _ in 0..count {
-            self.print();
+            if one_cell {
+                let page = page(self.random);
+                self.put(OutputTo(page));
+            } else {
+                self.print();
+            }
         }
     }
 
@@ -758,19 +775,52 @@ fn room(random: &mut Random) -> usize {
     }
 }
 
+/// The start's memory with room for many lines.
+fn roomy(start: &Start) -> Lent {
+    let [numbers, line_labels, kinds, pages] = [0; 4].map(|word| vec![word; 1100]);
+    Lent { numbers, line_labels, kinds, pages, ..start.lent.clone() }
+}
+
+fn set_room(random: &mut Random, lent: &mut Lent, room: usize) {
+    [lent.numbers, lent.line_labels, lent.kinds, lent.pages] = output(random, room);
+}
+
 /// Where a run comes to the sheet's end: room for just the lines that it prints before, or for the end line too, and in
 /// some cases an allowance that is just spent there.
 fn fit(random: &mut Random, start: &mut Start) {
-    let [numbers, line_labels, kinds, pages] = output(random, 1100);
-    let mut roomy = Lent { numbers, line_labels, kinds, pages, ..start.lent.clone() };
-    if let Ok(Report { stop: Stop::End, steps, lines, .. }) = plain(&start.sheet, &mut roomy, start.fuel) {
+    let report = plain(&start.sheet, &mut roomy(start), &start.clearances, start.fuel);
+    if let Ok(Report { stop: Stop::End, steps, lines, .. }) = report {
         let end_fits = random.percent(40);
-        let room = lines as usize - usize::from(!end_fits);
-        let lent = &mut start.lent;
-        [lent.numbers, lent.line_labels, lent.kinds, lent.pages] = output(random, room);
+        set_room(random, &mut start.lent, lines as usize - usize::from(!end_fits));
         if random.percent(50) {
             start.fuel = steps;
         }
+    }
+}
+
+/// Where a run writes a line that has owners: closes its page to one of them, so that it stops there, if not before; in
+/// some cases with no room for the line either, and where it is the end line with an allowance that is just spent.
+fn close(random: &mut Random, start: &mut Start) {
+    let mut lent = roomy(start);
+    let Ok(report) = plain(&start.sheet, &mut lent, &CLEARED_FOR_ALL, start.fuel) else {
+        return;
+    };
+    let lines = lent.lines(&report);
+    let owned: Vec<usize> = (0..lines.len()).filter(|&line| lines[line].label != 0).collect();
+    let Some(&last) = owned.last() else {
+        return;
+    };
+    let at = if random.percent(40) { last } else { random.pick(&owned) };
+    let line = lines[at];
+    let closed = !owner(random, line.label);
+    if let Some(word) = start.clearances.get_mut(usize::from(line.page)) {
+        *word = closed.into();
+    }
+    if random.percent(60) {
+        set_room(random, &mut start.lent, at);
+    }
+    if line.kind == Kind::End && random.percent(50) {
+        start.fuel = report.steps;
     }
 }
 
@@ -785,19 +835,9 @@ pub fn fuel(random: &mut Random) -> u64 {
     }
 }
 
-/// A start; `handler_count` is how many kernel commands the handler of a table has.
-pub fn start(random: &mut Random, handler_count: impl Fn(&[u8]) -> u64) -> Start {
-    let cells = cells(random);
-    let sheet = sheet(random, cells.len());
-    let mut table = table(random);
-    let commands = decode(&sheet);
-    // Sums that both the table and the limits of numbers may stop.
-    if matches!(commands.as_deref(), Ok([Push(_), Load, Push(_), Add | Sub, ..])) && random.percent(50) {
-        table = no_secret_sums();
-    }
-    let first = commands.as_ref().ok().and_then(|commands| commands.first().copied());
-    let mut values: Vec<i64> = cells.iter().map(|cell| cell.number).collect();
-    let mut labels: Vec<i64> = cells.iter().map(|cell| cell.label.into()).collect();
+/// Damages the words of cells in a few cases: a number or label too many, too many of both, or a word that is no label.
+/// Says whether it did.
+fn damage_cells(random: &mut Random, values: &mut Vec<i64>, labels: &mut Vec<i64>) -> bool {
     match random.below(100) {
         0 => values.push(number(random)),
         1 => labels.push(0),
@@ -810,7 +850,34 @@ pub fn start(random: &mut Random, handler_count: impl Fn(&[u8]) -> u64) -> Start
             let index = random.below(labels.len());
             labels[index] = random.pick(&[-1, 1 << 32, i64::MIN, i64::MAX]);
         }
-        _ => {}
+        _ => return false,
+    }
+    true
+}
+
+/// A start; `handler_count` is how many kernel commands the handler of a table has.
+pub fn start(random: &mut Random, handler_count: impl Fn(&[u8]) -> u64) -> Start {
+    let cells = cells(random);
+    let sheet = sheet(random, cells.len());
+    let mut table = table(random);
+    let commands = decode(&sheet);
+    // Sums that both the table and the limits of numbers may stop.
+    if matches!(commands.as_deref(), Ok([Push(_), Load, Push(_), Add | Sub, ..])) && random.percent(50) {
+        table = no_secret_sums();
+    }
+    let first = commands.as_ref().ok().and_then(|commands| commands.first().copied());
+    let sets: Vec<Label> = cells.iter().map(|cell| cell.label).collect();
+    let mut clearances = clearances::clearances(random, &sets).map(i64::from).to_vec();
+    // Lines that both the table and their page may stop.
+    if clearances != CLEARED_FOR_ALL && random.percent(8) {
+        table = no_secret_lines();
+    }
+    let mut values: Vec<i64> = cells.iter().map(|cell| cell.number).collect();
+    let mut labels: Vec<i64> = cells.iter().map(|cell| cell.label.into()).collect();
+    let damaged = damage_cells(random, &mut values, &mut labels);
+    // In some cases both would be refused.
+    if random.percent(if damaged { 25 } else { 4 }) {
+        clearances::damage(random, &mut clearances);
     }
     let program = 2 * commands.map_or(10, |commands| commands.len());
     let handler = 2 * handler_count(&table) as usize;
@@ -828,9 +895,11 @@ pub fn start(random: &mut Random, handler_count: impl Fn(&[u8]) -> u64) -> Start
         kinds,
         pages,
     };
-    let mut start = Start { sheet, table, lent, fuel: fuel(random) };
-    if random.percent(20) {
-        fit(random, &mut start);
+    let mut start = Start { sheet, table, lent, clearances, fuel: fuel(random) };
+    match random.weighted(&[20, 15, 65]) {
+        0 => fit(random, &mut start),
+        1 => close(random, &mut start),
+        _ => {}
     }
     start
 }

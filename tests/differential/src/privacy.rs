@@ -1,79 +1,21 @@
-//! Looks for a counterexample to demand 3: two runs of one sheet, each on either engine, from cells that are alike
-//! for a set of owners, whose views for that set are not one the start of the other; and so for the lines of each page.
-//! And for an end line that misleads: a view that has one must be whole, with the other view as its start.
+//! Looks for a counterexample to demand 3: two runs of one sheet, each on either engine and with clearances of its own,
+//! from cells that are alike for a set of owners, whose views for that set are not one the start of the other; and so
+//! for the lines of each page. And for an end line that misleads: a view that has one must be whole, with the other view
+//! as its start. And for a page that tells what it is closed to: a line that is not cleared for its page, or a page
+//! that both runs clear for owners of the set only, and whose lines, seen by anyone, differ.
 
-use crate::backend::Backend;
+mod pairs;
+
+pub use self::pairs::Pairs;
+use crate::backend::{page_from, Backend};
+use crate::generate::clearances::clearances;
 use crate::generate::{cells, commands, fuel, label, number, rule_memory};
 use crate::random::Random;
 use model::engine::{Lent, ALLOWANCE};
-use model::machine::{Kind, Stop};
+use model::machine::{Clearances, Kind, Stop};
 use model::rules::{Table, STANDARD};
 use model::sheet::{encode, Command, COMMANDS, PAGES};
 use model::{flows, Atom, Label};
-
-#[derive(Clone, Default)]
-pub struct Pairs {
-    pub pairs: u64,
-    /// Pairs whose views both have lines.
-    pub with_lines: u64,
-    /// Pairs that went different ways: their steps or stops differ.
-    pub apart: u64,
-    /// Pairs of one run on each engine.
-    pub mixed: u64,
-    /// Lines that one view has beyond the other.
-    pub cut: u64,
-    pub lines: u64,
-    /// Pairs whose views both have an end line, and pairs of which one view has one.
-    pub both_end: u64,
-    pub one_ends: u64,
-    /// Runs that came to their end at a place whose label is outside the set.
-    pub hidden_ends: u64,
-    /// Pairs of which one run was stopped by an overflow, and those of them in which that cut its view short.
-    pub one_overflows: u64,
-    pub overflow_cuts: u64,
-    /// Pairs whose views both have lines of this page.
-    pub pages: [u64; PAGES as usize],
-    /// Pairs whose views have equally many lines of one page, and one has more of another.
-    pub one_page_cut: u64,
-}
-
-impl Pairs {
-    pub fn print(&self) {
-        println!(
-            "pairs {}, views with lines {}, lines compared {}, different ways {}, one on each engine {}, one view longer {}",
-            self.pairs, self.with_lines, self.lines, self.apart, self.mixed, self.cut
-        );
-        println!(
-            "end lines in both views {}, in one {}, outside the set {}",
-            self.both_end, self.one_ends, self.hidden_ends
-        );
-        println!("stop 9 in one run {}, its view the shorter {}", self.one_overflows, self.overflow_cuts);
-        println!("lines of a page in both views, by page: {:?}", self.pages);
-        println!("one page longer and another alike {}", self.one_page_cut);
-    }
-
-    /// What was not reached though it should be.
-    pub fn missing(&self) -> Vec<String> {
-        let pages = (0..).zip(self.pages).filter(|&(_, count)| count == 0);
-        let mut missing: Vec<String> = pages.map(|(page, _)| format!("lines of page {page}")).collect();
-        let never = [
-            ("views with lines", self.with_lines),
-            ("different ways", self.apart),
-            ("one on each engine", self.mixed),
-            ("one view longer", self.cut),
-            ("end lines in both views", self.both_end),
-            ("an end line in one view", self.one_ends),
-            ("an end outside the set", self.hidden_ends),
-            ("stop 9 in one run", self.one_overflows),
-            ("a view that stop 9 cut", self.overflow_cuts),
-            ("one page longer and another alike", self.one_page_cut),
-        ]
-        .into_iter()
-        .filter(|&(_, count)| count == 0);
-        missing.extend(never.map(|(name, _)| name.into()));
-        missing
-    }
-}
 
 /// Cells that an observer of the set cannot tell from these: inside ones equal, outside ones any outside.
 fn alike(random: &mut Random, cells: &[Atom], set: Label) -> Vec<Atom> {
@@ -92,14 +34,45 @@ fn alike(random: &mut Random, cells: &[Atom], set: Label) -> Vec<Atom> {
         .collect()
 }
 
+/// Clearances for a run; in many cases pages are closed to owners outside the set.
+fn closed_to_others(random: &mut Random, cells: &[Atom], set: Label) -> Clearances {
+    let labels: Vec<Label> = cells.iter().map(|cell| cell.label).collect();
+    let sets = clearances(random, &labels);
+    let chance = random.pick(&[0, 0, 60, 100]);
+    sets.map(|owners| if random.percent(chance) { owners & set } else { owners })
+}
+
+/// Clearances for the other run: mostly the same, in some cases of one page or of all of them others.
+fn other_clearances(random: &mut Random, clearances: &Clearances, cells: &[Atom], set: Label) -> Clearances {
+    let mut others = *clearances;
+    match random.weighted(&[70, 15, 15]) {
+        0 => {}
+        1 => others[random.below(PAGES.into())] = label(random),
+        _ => others = closed_to_others(random, cells, set),
+    }
+    others
+}
+
+/// Page, kind, number and label.
+type Words = [i64; 4];
+
 struct Run {
-    /// Page, kind, number and label of each line inside the set.
-    view: Vec<[i64; 4]>,
+    lines: Vec<Words>,
+    /// The lines inside the set.
+    view: Vec<Words>,
+    clearances: Clearances,
     stop: u64,
     steps: u64,
+    /// Where a page's clearance stopped the run: the page, and whether it was at the end.
+    uncleared: Option<(u8, bool)>,
     /// The place's label is inside the set.
     cleared: bool,
     on_plain: bool,
+}
+
+/// Those of one page.
+fn of_page(lines: &[Words], page: u8) -> Vec<Words> {
+    lines.iter().copied().filter(|&[on, ..]| on == page.into()).collect()
 }
 
 impl Run {
@@ -112,9 +85,17 @@ impl Run {
         self.view.iter().position(|&[_, kind, ..]| kind == Kind::End as i64)
     }
 
-    /// The lines of one page.
-    fn page(&self, page: u8) -> Vec<[i64; 4]> {
-        self.view.iter().copied().filter(|&[on, ..]| on == page.into()).collect()
+    /// Whether the page is cleared for owners of the set only.
+    fn closes(&self, page: u8, set: Label) -> bool {
+        flows(self.clearances[usize::from(page)], set)
+    }
+
+    /// Each line is cleared for its page.
+    fn keeps_its_clearances(&self) -> bool {
+        self.lines.iter().all(|&[page, _, _, label]| {
+            let clearance = self.clearances.get(page as usize);
+            clearance.is_some_and(|&owners| flows(label as Label, owners))
+        })
     }
 
     fn has_end_line(&self) -> bool {
@@ -128,7 +109,14 @@ impl Run {
     }
 }
 
-fn run(backend: &dyn Backend, random: &mut Random, sheet: &[Command], cells: &[Atom], set: Label) -> Run {
+fn run(
+    backend: &dyn Backend,
+    random: &mut Random,
+    sheet: &[Command],
+    cells: &[Atom],
+    clearances: Clearances,
+    set: Label,
+) -> Run {
     let room = random.pick(&[0, 1, 3, 20, 60, 200]);
     let mut lent = Lent::roomy(cells, room);
     lent.program.truncate(2 * sheet.len());
@@ -137,9 +125,10 @@ fn run(backend: &dyn Backend, random: &mut Random, sheet: &[Command], cells: &[A
         beyond => beyond % 1000,
     };
     let bytes = encode(sheet);
+    let words = clearances.map(i64::from);
     let on_plain = random.percent(50);
     let answer = if on_plain {
-        backend.plain(&bytes, &mut lent, fuel)
+        backend.plain(&bytes, &mut lent, &words, fuel)
     } else {
         let memory = rule_memory(random, &STANDARD, sheet.first().copied());
         let table = Table::parse(&STANDARD).expect("the standard table is a table");
@@ -147,36 +136,80 @@ fn run(backend: &dyn Backend, random: &mut Random, sheet: &[Command], cells: &[A
             lent.rule_memory = memory;
         }
         lent.handler.truncate(2 * backend.handler_count(&STANDARD) as usize);
-        backend.tagged(&bytes, &STANDARD, &mut lent, fuel)
+        backend.tagged(&bytes, &STANDARD, &mut lent, &words, fuel)
     };
-    let [refusal, _, stop, steps, _, place_label, _, lines, _, _] = answer.words;
+    let [refusal, _, stop, steps, pc, place_label, _, lines, _, _] = answer.words;
     assert_eq!(refusal, 0, "the start breaks no limit");
-    let view = (0..lines as usize)
+    let lines: Vec<Words> = (0..lines as usize)
         .map(|index| [lent.pages[index], lent.kinds[index], lent.numbers[index], lent.line_labels[index]])
-        .filter(|&[.., mark]| flows(mark as Label, set))
         .collect();
-    Run { view, stop, steps, cleared: flows(place_label as Label, set), on_plain }
+    let view = lines.iter().copied().filter(|&[.., mark]| flows(mark as Label, set)).collect();
+    let page = page_from(sheet, pc).filter(|_| stop == Stop::NotCleared as u64);
+    let uncleared = page.map(|page| (page, pc == sheet.len() as u64));
+    Run {
+        lines,
+        view,
+        clearances,
+        stop,
+        steps,
+        uncleared,
+        cleared: flows(place_label as Label, set),
+        on_plain,
+    }
 }
 
 /// Whether of two lists one is the start of the other.
-fn one_starts(one: &[[i64; 4]], two: &[[i64; 4]]) -> bool {
+fn one_starts(one: &[Words], two: &[Words]) -> bool {
     one.starts_with(two) || two.starts_with(one)
 }
 
-/// What is wrong with two views: they differ, on a page or in the order of all lines; one has an end line and the other
-/// goes on; or one has an end line where its run has none for this reader, or the other way round.
-fn wrong(one: &Run, two: &Run) -> Option<&'static str> {
-    let passes = |whole: &Run, other: &Run| whole.has_end_line() && other.view.len() > whole.view.len();
-    if (0..PAGES).any(|page| !one_starts(&one.page(page), &two.page(page))) {
-        Some("differ on a page")
-    } else if !one_starts(&one.view, &two.view) {
-        Some("differ")
-    } else if passes(one, two) || passes(two, one) {
-        Some("differ in what follows an end line")
-    } else if !(one.tells_its_end() && two.tells_its_end()) {
-        Some("do not tell their runs' ends")
-    } else {
-        None
+/// Two runs of one sheet, from cells that are alike for the set.
+struct Pair {
+    one: Run,
+    two: Run,
+    set: Label,
+    /// The cells are not the same.
+    cells_differ: bool,
+}
+
+impl Pair {
+    fn runs(&self) -> [&Run; 2] {
+        [&self.one, &self.two]
+    }
+
+    /// The lines of one page in both views.
+    fn page(&self, page: u8) -> [Vec<Words>; 2] {
+        self.runs().map(|run| of_page(&run.view, page))
+    }
+
+    /// All lines of a page in both runs, if both clear it for owners of the set only.
+    fn closed_page(&self, page: u8) -> Option<[Vec<Words>; 2]> {
+        let closed = self.runs().into_iter().all(|run| run.closes(page, self.set));
+        closed.then(|| self.runs().map(|run| of_page(&run.lines, page)))
+    }
+
+    /// What is wrong with the two. A page that is closed to others tells them apart, or a line is not cleared for its
+    /// page; the views differ, on a page or in the order of all lines; one has an end line and the other goes on; or one
+    /// has an end line where its run has none for this reader, or the other way round.
+    fn wrong(&self) -> Option<&'static str> {
+        let Pair { one, two, .. } = self;
+        let passes = |whole: &Run, other: &Run| whole.has_end_line() && other.view.len() > whole.view.len();
+        let differ = |[one, two]: [Vec<Words>; 2]| !one_starts(&one, &two);
+        if (0..PAGES).filter_map(|page| self.closed_page(page)).any(differ) {
+            Some("differ on a closed page")
+        } else if !(one.keeps_its_clearances() && two.keeps_its_clearances()) {
+            Some("have a line that is not cleared for its page")
+        } else if (0..PAGES).map(|page| self.page(page)).any(differ) {
+            Some("differ on a page")
+        } else if !one_starts(&one.view, &two.view) {
+            Some("differ")
+        } else if passes(one, two) || passes(two, one) {
+            Some("differ in what follows an end line")
+        } else if !(one.tells_its_end() && two.tells_its_end()) {
+            Some("do not tell their runs' ends")
+        } else {
+            None
+        }
     }
 }
 
@@ -188,38 +221,19 @@ pub fn privacy_case(backend: &dyn Backend, seed: u64, case: u64, pairs: &mut Pai
     let mut sheet = commands(&mut random, cells.len());
     sheet.truncate(COMMANDS);
     let others = alike(&mut random, &cells, set);
-    let one = run(backend, &mut random, &sheet, &cells, set);
-    let two = run(backend, &mut random, &sheet, &others, set);
-    let common = one.view.len().min(two.view.len());
-    pairs.pairs += 1;
-    pairs.with_lines += u64::from(common > 0);
-    pairs.apart += u64::from((one.stop, one.steps) != (two.stop, two.steps));
-    pairs.mixed += u64::from(one.on_plain != two.on_plain);
-    pairs.cut += u64::from(one.view.len() != two.view.len());
-    pairs.lines += common as u64;
-    let ends = [one.has_end_line(), two.has_end_line()];
-    pairs.both_end += u64::from(ends == [true; 2]);
-    pairs.one_ends += u64::from(ends[0] != ends[1]);
-    pairs.hidden_ends +=
-        [&one, &two].into_iter().filter(|run| run.is_at_end() && !run.cleared).count() as u64;
-    let overflows = [&one, &two].map(|run| run.stop == Stop::Overflow as u64);
-    if overflows[0] != overflows[1] {
-        let (cut, other) = if overflows[0] { (&one, &two) } else { (&two, &one) };
-        pairs.one_overflows += 1;
-        pairs.overflow_cuts += u64::from(cut.view.len() < other.view.len());
-    }
-    let lengths = (0..PAGES).map(|page| [one.page(page).len(), two.page(page).len()]);
-    let lengths: Vec<[usize; 2]> = lengths.collect();
-    for (count, [one, two]) in pairs.pages.iter_mut().zip(&lengths) {
-        *count += u64::from(*one.min(two) > 0);
-    }
-    let alike = lengths.iter().any(|&[one, two]| one == two && one > 0);
-    pairs.one_page_cut += u64::from(alike && lengths.iter().any(|[one, two]| one != two));
-    let Some(wrong) = wrong(&one, &two) else {
+    let clearances = closed_to_others(&mut random, &cells, set);
+    let apart = other_clearances(&mut random, &clearances, &cells, set);
+    let one = run(backend, &mut random, &sheet, &cells, clearances, set);
+    let two = run(backend, &mut random, &sheet, &others, apart, set);
+    let pair = Pair { one, two, set, cells_differ: cells != others };
+    pairs.note(&pair);
+    let Some(wrong) = pair.wrong() else {
         return Ok(());
     };
+    let [one, two] = pair.runs();
     Err(format!(
-        "seed {seed} case {case}: views for {set:08x} {wrong}: {:?} and {:?}\n  sheet {sheet:?}\n  cells {cells:?}\n  cells {others:?}",
-        one.view, two.view
+        "seed {seed} case {case}: views for {set:08x} {wrong}: {:?} and {:?}\n  of lines {:?} and {:?}\n  sheet {sheet:?}\n  \
+         cells {cells:?}\n  cells {others:?}\n  clearances {clearances:x?}\n  clearances {apart:x?}",
+        one.view, two.view, one.lines, two.lines
     ))
 }

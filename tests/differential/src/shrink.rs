@@ -1,6 +1,7 @@
 //! Makes a failing case smaller, as long as it still fails.
 
 use crate::generate::Start;
+use model::engine::CLEARED_FOR_ALL;
 use model::rules::STANDARD;
 use model::sheet::{decode, encode};
 
@@ -34,6 +35,14 @@ fn smaller(start: &Start, handler_count: &impl Fn(&[u8]) -> u64) -> Vec<Start> {
     }
     if start.lent.rule_memory.iter().any(|&word| word != 0) {
         add(&|start| start.lent.rule_memory = vec![0; 7]);
+    }
+    if start.clearances != CLEARED_FOR_ALL {
+        add(&|start| start.clearances = CLEARED_FOR_ALL.to_vec());
+    }
+    for (page, all) in (0..start.clearances.len()).zip(CLEARED_FOR_ALL) {
+        if start.clearances[page] != all {
+            add(&|start| start.clearances[page] = all);
+        }
     }
     if !start.lent.values.is_empty() {
         add(&|start| {

@@ -1,5 +1,8 @@
 //! What was reached, how often: a test that never meets a stop says nothing about it.
 
+pub mod clearances;
+
+use self::clearances::Clearances;
 use crate::backend::{fits, Answer};
 use crate::generate::Start;
 use model::engine::Lent;
@@ -19,7 +22,7 @@ const TABLE_FAULTS: [TableFault; 7] = [
 ];
 
 /// The refusals that a start can meet.
-const REFUSALS: [usize; 10] = [1, 2, 3, 4, 5, 6, 7, 8, 9, 12];
+const REFUSALS: [usize; 11] = [1, 2, 3, 4, 5, 6, 7, 8, 9, 12, 13];
 
 const JOB_FAULTS: [JobFault; 5] = [
     JobFault::TooLong,
@@ -72,8 +75,8 @@ const STARTS: [&str; 3] =
 /// Counts for one engine.
 #[derive(Clone, Default)]
 pub struct Engine {
-    pub stops: [u64; 10],
-    pub refusals: [u64; 13],
+    pub stops: [u64; 11],
+    pub refusals: [u64; 14],
     /// Refusal 8 by its place.
     pub spaces: [u64; 4],
     pub steps: u64,
@@ -91,6 +94,7 @@ pub struct Engine {
     pub denied_output_to: u64,
     /// Lines by page; on page 0 also those of Output and the end lines.
     pub pages: [u64; PAGES as usize],
+    pub clearances: Clearances,
 }
 
 impl Engine {
@@ -160,11 +164,11 @@ impl Engine {
         }
     }
 
-    /// What was met of ends, full space, OutputTo and overflows, by name.
+    /// What was met of ends, full space, OutputTo, overflows and clearances, by name.
     fn details(&self) -> impl Iterator<Item = (&'static str, u64)> + '_ {
         let names = ENDS.into_iter().chain(FULL).chain(OUTPUT_TO).chain(OVERFLOWS);
         let counts = self.ends.iter().chain(&self.full).chain(&self.output_to).chain(&self.overflows);
-        names.zip(counts.copied())
+        names.zip(counts.copied()).chain(self.clearances.either())
     }
 }
 
@@ -308,9 +312,15 @@ impl Tally {
         }
         want("tagged: stop 6 at a sum outside 64 bits".into(), self.tagged.denied_overflows);
         want("tagged: stop 6 at an OutputTo".into(), self.tagged.denied_output_to);
+        for (what, count) in self.tagged.clearances.tagged() {
+            want(format!("tagged: {what}"), count);
+        }
         for page in 0..PAGES.into() {
             want(format!("OutputTo {page}"), self.output_to[page]);
             want(format!("tagged: a line on page {page}"), self.tagged.pages[page]);
+            for (name, engine) in [("plain", &self.plain), ("tagged", &self.tagged)] {
+                want(format!("{name}: stop 10 on page {page}"), engine.clearances.pages[page]);
+            }
         }
         want("OutputTo of a hidden number at a hidden place".into(), self.hidden_output_to);
         for (what, &count) in ROWS.iter().zip(&self.rows).chain(STARTS.iter().zip(&self.starts)) {
@@ -345,7 +355,7 @@ impl Tally {
     pub fn print(&self) {
         println!("{:>26} {:>12} {:>12}", "", "plain", "tagged");
         let row = |name: String, plain: u64, tagged: u64| println!("{name:>26} {plain:>12} {tagged:>12}");
-        for stop in 0..10 {
+        for stop in 0..self.plain.stops.len() {
             row(format!("stop {stop}"), self.plain.stops[stop], self.tagged.stops[stop]);
         }
         for ((what, plain), (_, tagged)) in self.plain.details().zip(self.tagged.details()) {
@@ -353,6 +363,11 @@ impl Tally {
         }
         row("stop 6 before 9".into(), self.plain.denied_overflows, self.tagged.denied_overflows);
         row("stop 6, OutputTo".into(), self.plain.denied_output_to, self.tagged.denied_output_to);
+        for ((what, plain), (_, tagged)) in
+            self.plain.clearances.tagged().zip(self.tagged.clearances.tagged())
+        {
+            row(what.into(), plain, tagged);
+        }
         for number in REFUSALS {
             row(format!("refusal {number}"), self.plain.refusals[number], self.tagged.refusals[number]);
         }
@@ -372,6 +387,8 @@ impl Tally {
             "OutputTo carried out, by page: {:?}; hidden number and place: {}",
             self.output_to, self.hidden_output_to
         );
+        let closed = [&self.plain, &self.tagged].map(|engine| engine.clearances.pages);
+        println!("stop 10, by page: plain {:?}, tagged {:?}", closed[0], closed[1]);
         print!("rule memory:");
         for (what, count) in ROWS.iter().zip(&self.rows).chain(STARTS.iter().zip(&self.starts)) {
             print!(" {what}: {count}");

@@ -1,16 +1,19 @@
 //! The two engines over lent words: what is refused, what is run, what the words hold afterwards (document 01, "Tag
-//! engine", "Refused before the first step"; document 02, U1 and U4, for the third and fourth run of the output space).
+//! engine", "Refused before the first step"; document 02, U1 and U4, for the third and fourth run of the output space,
+//! and U5, for the clearances).
 
 use crate::kernel::{self, Breach, Ending};
-use crate::machine::{Entry, Judge, Kind, Line, Machine, Stop, STACK};
+use crate::machine::{Clearances, Entry, Judge, Kind, Line, Machine, Stop, STACK};
 use crate::rules::{standard, Labels, Question, RuleMemory, Table};
-use crate::sheet::{decode, Command};
+use crate::sheet::{decode, Command, PAGES};
 use crate::{Atom, Label, Refusal};
 
 /// The most cells.
 pub const CELLS: usize = 1024;
 /// The largest allowance.
 pub const ALLOWANCE: u64 = 1_000_000;
+/// Clearances of a start: every page is cleared for all owners.
+pub const CLEARED_FOR_ALL: [i64; PAGES as usize] = [Label::MAX as i64; PAGES as usize];
 
 /// Everything that is lent to a run.
 #[derive(Clone, Debug, Default, PartialEq, Eq)]
@@ -107,6 +110,25 @@ fn cells(values: &[i64], labels: &[i64]) -> Result<Vec<Atom>, Refusal> {
     Ok(cells)
 }
 
+/// The pages' clearances, a word each, or refusal 13: at 16 where there are not sixteen words.
+pub fn clearances(words: &[i64]) -> Result<Clearances, Refusal> {
+    let mut clearances = [0; PAGES as usize];
+    if words.len() != clearances.len() {
+        return Err(Refusal::new(13, clearances.len()));
+    }
+    for (page, (clearance, &word)) in clearances.iter_mut().zip(words).enumerate() {
+        *clearance = Label::try_from(word).map_err(|_| Refusal::new(13, page))?;
+    }
+    Ok(clearances)
+}
+
+/// What both engines check first, in this order: the sheet, the cells, the clearances.
+fn given(sheet: &[u8], lent: &Lent, words: &[i64]) -> Result<(Vec<Command>, Vec<Atom>, Clearances), Refusal> {
+    let commands = decode(sheet)?;
+    let cells = cells(&lent.values, &lent.labels)?;
+    Ok((commands, cells, clearances(words)?))
+}
+
 /// Refusal 8 where one of these spaces, each with the words it needs, is too short.
 fn spaces(needs: &[(usize, usize)]) -> Result<(), Refusal> {
     match needs.iter().position(|(has, wants)| has < wants) {
@@ -129,8 +151,13 @@ fn lay<const N: usize>(space: &mut [i64], records: impl Iterator<Item = [i64; N]
 }
 
 /// Runs the machine and lays what it left into the lent words.
-fn run(commands: &[Command], cells: Vec<Atom>, lent: &mut Lent, fuel: u64, judge: &mut impl Judge) -> Report {
-    let mut machine = Machine::new(cells, lent.room());
+fn run(
+    mut machine: Machine,
+    commands: &[Command],
+    lent: &mut Lent,
+    fuel: u64,
+    judge: &mut impl Judge,
+) -> Report {
     let (stop, steps) = machine.run(commands, fuel, judge);
     lay(&mut lent.program, commands.iter().map(|command| command.words()));
     lay(
@@ -142,34 +169,41 @@ fn run(commands: &[Command], cells: Vec<Atom>, lent: &mut Lent, fuel: u64, judge
     );
     lay(&mut lent.values, machine.cells.iter().map(|cell| [cell.number]));
     lay(&mut lent.labels, machine.cells.iter().map(|cell| [cell.label.into()]));
-    lay(&mut lent.numbers, machine.lines.iter().map(|line| [line.number]));
-    lay(&mut lent.line_labels, machine.lines.iter().map(|line| [line.label.into()]));
-    lay(&mut lent.kinds, machine.lines.iter().map(|line| [line.kind as i64]));
-    lay(&mut lent.pages, machine.lines.iter().map(|line| [line.page.into()]));
+    let lines = &machine.pages.lines;
+    lay(&mut lent.numbers, lines.iter().map(|line| [line.number]));
+    lay(&mut lent.line_labels, lines.iter().map(|line| [line.label.into()]));
+    lay(&mut lent.kinds, lines.iter().map(|line| [line.kind as i64]));
+    lay(&mut lent.pages, lines.iter().map(|line| [line.page.into()]));
     Report {
         stop,
         steps,
         place: machine.place,
         place_label: machine.place_label,
         depth: machine.stack.depth as u64,
-        lines: machine.lines.len() as u64,
+        lines: lines.len() as u64,
         faults: 0,
         kernel_steps: 0,
     }
 }
 
 /// The plain engine: the standard rules.
-pub fn plain(sheet: &[u8], lent: &mut Lent, fuel: u64) -> Result<Report, Refusal> {
-    judged(sheet, lent, fuel, &mut standard)
+pub fn plain(sheet: &[u8], lent: &mut Lent, clearances: &[i64], fuel: u64) -> Result<Report, Refusal> {
+    judged(sheet, lent, clearances, fuel, &mut standard)
 }
 
 /// The plain engine under other rules than the standard ones.
-pub fn judged(sheet: &[u8], lent: &mut Lent, fuel: u64, judge: &mut impl Judge) -> Result<Report, Refusal> {
-    let commands = decode(sheet)?;
-    let cells = cells(&lent.values, &lent.labels)?;
+pub fn judged(
+    sheet: &[u8],
+    lent: &mut Lent,
+    clearances: &[i64],
+    fuel: u64,
+    judge: &mut impl Judge,
+) -> Result<Report, Refusal> {
+    let (commands, cells, clearances) = given(sheet, lent, clearances)?;
     spaces(&[(lent.program.len(), 2 * commands.len()), (lent.stack.len(), 3 * STACK)])?;
     allowance(fuel)?;
-    Ok(run(&commands, cells, lent, fuel, judge))
+    let machine = Machine::new(cells, clearances, lent.room());
+    Ok(run(machine, &commands, lent, fuel, judge))
 }
 
 /// A rule memory of one row, with the handler behind it.
@@ -233,8 +267,15 @@ pub struct Tagged {
 }
 
 /// The tag engine with a rule memory of one row.
-pub fn tagged(sheet: &[u8], table: &[u8], handler: Handler, lent: &mut Lent, fuel: u64) -> Tagged {
-    tagged_noted(sheet, table, handler, lent, fuel, |_, _| ())
+pub fn tagged(
+    sheet: &[u8],
+    table: &[u8],
+    handler: Handler,
+    lent: &mut Lent,
+    clearances: &[i64],
+    fuel: u64,
+) -> Tagged {
+    tagged_noted(sheet, table, handler, lent, clearances, fuel, |_, _| ())
 }
 
 /// The same; `note` is told before each command what the rule memory holds and what it is asked.
@@ -243,12 +284,14 @@ pub fn tagged_noted(
     table: &[u8],
     handler: Handler,
     lent: &mut Lent,
+    clearances: &[i64],
     fuel: u64,
     note: impl FnMut(&RuleMemory, &Question),
 ) -> Tagged {
-    let mut wrong = None;
-    let answer = tagged_run(sheet, table, handler, lent, fuel, note, &mut wrong);
-    Tagged { answer, wrong }
+    match tagged_run(sheet, table, handler, lent, clearances, fuel, note) {
+        Ok((report, wrong)) => Tagged { answer: Ok(report), wrong },
+        Err(refusal) => Tagged { answer: Err(refusal), wrong: None },
+    }
 }
 
 fn tagged_run(
@@ -256,12 +299,11 @@ fn tagged_run(
     table: &[u8],
     handler: Handler,
     lent: &mut Lent,
+    clearances: &[i64],
     fuel: u64,
     note: impl FnMut(&RuleMemory, &Question),
-    wrong: &mut Option<HandlerFault>,
-) -> Result<Report, Refusal> {
-    let commands = decode(sheet)?;
-    let cells = cells(&lent.values, &lent.labels)?;
+) -> Result<(Report, Option<HandlerFault>), Refusal> {
+    let (commands, cells, clearances) = given(sheet, lent, clearances)?;
     let table = Table::parse(table)?;
     if !table.accepts(&lent.rule_memory) {
         return Err(Refusal::new(7, 0));
@@ -272,23 +314,13 @@ fn tagged_run(
         (lent.handler.len(), 2 * handler.count),
     ])?;
     allowance(fuel)?;
-    if handler.count > kernel::COMMANDS {
-        *wrong = Some(HandlerFault::TooManyCommands(handler.count));
-    }
-    let wrong_so_far = wrong.take();
-    let mut tags = Tags {
-        memory: [0; 7],
-        handler,
-        table: &table,
-        faults: 0,
-        kernel_steps: 0,
-        wrong: wrong_so_far,
-        note,
-    };
+    let too_many = handler.count > kernel::COMMANDS;
+    let wrong = too_many.then_some(HandlerFault::TooManyCommands(handler.count));
+    let mut tags = Tags { memory: [0; 7], handler, table: &table, faults: 0, kernel_steps: 0, wrong, note };
     tags.memory.copy_from_slice(&lent.rule_memory);
-    let report = run(&commands, cells, lent, fuel, &mut tags);
+    let machine = Machine::new(cells, clearances, lent.room());
+    let report = run(machine, &commands, lent, fuel, &mut tags);
     lent.handler[..2 * handler.count].copy_from_slice(&handler.words[..2 * handler.count]);
     lent.rule_memory.copy_from_slice(&tags.memory);
-    *wrong = tags.wrong;
-    Ok(Report { faults: tags.faults, kernel_steps: tags.kernel_steps, ..report })
+    Ok((Report { faults: tags.faults, kernel_steps: tags.kernel_steps, ..report }, tags.wrong))
 }

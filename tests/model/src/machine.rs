@@ -1,9 +1,9 @@
 //! The machine: its state, its step and its runs (document 01, "Atoms, cells, stack", "Commands", "Stops"; document 02,
-//! U1, for the end line, U2, for sums outside 64 bits, and U4, for pages).
+//! U1, for the end line, U2, for sums outside 64 bits, U4, for pages, and U5, for their clearances).
 
 use crate::rules::{Labels, Question};
-use crate::sheet::Command;
-use crate::{Atom, Label};
+use crate::sheet::{Command, PAGES};
+use crate::{flows, Atom, Label};
 
 /// The most entries of the stack.
 pub const STACK: usize = 256;
@@ -27,6 +27,8 @@ pub enum Stop {
     OutputFull = 8,
     /// Tested after 6 and before 7 and 8.
     Overflow = 9,
+    /// Tested after 6 and before 9, 7 and 8; at the sheet's end before 8, both in place of 0.
+    NotCleared = 10,
 }
 
 /// What a line says: a number that an Output or OutputTo dropped, or that the run came to the sheet's end.
@@ -92,6 +94,41 @@ impl Stack {
     }
 }
 
+/// The owners that each page is cleared for.
+pub type Clearances = [Label; PAGES as usize];
+
+/// Where lines go: the pages of a run, which share their room.
+#[derive(Clone, Debug)]
+pub struct Pages {
+    pub lines: Vec<Line>,
+    /// How many lines the output space holds, the end line among them.
+    pub room: usize,
+    pub clearances: Clearances,
+}
+
+impl Pages {
+    /// The owners that may know of a line on this page.
+    pub fn clearance(&self, page: u8) -> Label {
+        self.clearances[usize::from(page)]
+    }
+
+    pub fn is_full(&self) -> bool {
+        self.lines.len() >= self.room
+    }
+
+    /// Puts a line out if its page is cleared for it and there is room, which are tested in this order.
+    pub fn write(&mut self, line: Line) -> Result<(), Stop> {
+        if !flows(line.label, self.clearance(line.page)) {
+            return Err(Stop::NotCleared);
+        }
+        if self.is_full() {
+            return Err(Stop::OutputFull);
+        }
+        self.lines.push(line);
+        Ok(())
+    }
+}
+
 /// What an Add or a Sub comes to, as a whole number.
 pub fn whole(command: Command, top: i64, under: i64) -> i128 {
     let (top, under) = (i128::from(top), i128::from(under));
@@ -112,6 +149,11 @@ pub trait Judge {
         i64::try_from(whole(command, top, under)).ok()
     }
 
+    /// Puts a line out or stops it, the end line too. A method, so that a test can have it wrong.
+    fn write(&mut self, pages: &mut Pages, line: Line) -> Result<(), Stop> {
+        pages.write(line)
+    }
+
     /// Told of every line that a command writes, for tests that count or follow them.
     fn printed(&mut self, _place: i64, _command: Command) {}
 }
@@ -129,26 +171,17 @@ pub struct Machine {
     pub place_label: Label,
     pub stack: Stack,
     pub cells: Vec<Atom>,
-    pub lines: Vec<Line>,
-    /// How many lines the output space holds, the end line among them.
-    pub room: usize,
+    pub pages: Pages,
 }
 
 impl Machine {
-    pub fn new(cells: Vec<Atom>, room: usize) -> Machine {
-        Machine { place: 0, place_label: 0, stack: Stack::default(), cells, lines: Vec::new(), room }
+    pub fn new(cells: Vec<Atom>, clearances: Clearances, room: usize) -> Machine {
+        let pages = Pages { lines: Vec::new(), room, clearances };
+        Machine { place: 0, place_label: 0, stack: Stack::default(), cells, pages }
     }
 
     fn cell(&self, address: i64) -> Result<usize, Stop> {
         usize::try_from(address).ok().filter(|&index| index < self.cells.len()).ok_or(Stop::AddressOutside)
-    }
-
-    fn write(&mut self, line: Line) -> Result<(), Stop> {
-        if self.lines.len() >= self.room {
-            return Err(Stop::OutputFull);
-        }
-        self.lines.push(line);
-        Ok(())
     }
 
     /// The atoms that the command works on, in the order of its inputs.
@@ -198,7 +231,7 @@ impl Machine {
             Output | OutputTo(_) => {
                 let page = if let OutputTo(page) = command { page } else { 0 };
                 let Atom { number, label } = result(atoms[0].number);
-                self.write(Line { page, kind: Kind::Number, number, label })?;
+                judge.write(&mut self.pages, Line { page, kind: Kind::Number, number, label })?;
                 judge.printed(self.place, command);
                 self.stack.pop();
             }
@@ -242,9 +275,11 @@ impl Machine {
         Ok(())
     }
 
-    /// What the end of the sheet comes to: its line, or no room for it. It is no step, and no judge is asked.
-    fn end(&mut self) -> Stop {
-        match self.write(Line { page: 0, kind: Kind::End, number: 0, label: self.place_label }) {
+    /// What the end of the sheet comes to: its line on page 0, or what stops that line. It is no step, and no rule is
+    /// asked.
+    fn end(&mut self, judge: &mut impl Judge) -> Stop {
+        let line = Line { page: 0, kind: Kind::End, number: 0, label: self.place_label };
+        match judge.write(&mut self.pages, line) {
             Ok(()) => Stop::End,
             Err(stop) => stop,
         }
@@ -255,7 +290,7 @@ impl Machine {
         let mut steps = 0;
         loop {
             if self.place == commands.len() as i64 {
-                return (self.end(), steps);
+                return (self.end(judge), steps);
             }
             if steps == allowance {
                 return (Stop::AllowanceSpent, steps);

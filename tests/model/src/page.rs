@@ -1,7 +1,7 @@
 //! The `page` program: from a job's bytes to a page's bytes (document 01, "The page program"; document 02, U1, for the
-//! end line, and U4, for the page numbers).
+//! end line, U4, for the page numbers, and U5, for the pages' clearances).
 
-use crate::engine::{self, judged, Lent};
+use crate::engine::{self, judged, Lent, CLEARED_FOR_ALL};
 use crate::machine::Kind;
 use crate::rules::{Table, STANDARD};
 use crate::{flows, Atom, Label};
@@ -69,16 +69,21 @@ pub fn read(job: &[u8]) -> Result<Job<'_>, (JobFault, usize)> {
     }
 }
 
-/// What `page` prints for a job.
+/// What `page` prints for a job: every page is cleared for all owners.
 pub fn page(job: &[u8]) -> String {
-    let job = match read(job) {
-        Ok(job) => job,
-        Err((_, offset)) => return format!("job {offset}\n"),
-    };
+    match read(job) {
+        Ok(job) => printed(&job, &CLEARED_FOR_ALL),
+        Err((_, offset)) => format!("job {offset}\n"),
+    }
+}
+
+/// What is printed for a job that was read, with pages so cleared.
+pub fn printed(job: &Job, clearances: &[i64]) -> String {
     let table = Table::parse(&STANDARD).expect("the standard table is a table");
     let mut lent = Lent::roomy(&job.cells, LINES);
     let fuel = job.allowance.into();
-    let report = match judged(job.sheet, &mut lent, fuel, &mut |question: &_| table.answer(question)) {
+    let judge = &mut |question: &_| table.answer(question);
+    let report = match judged(job.sheet, &mut lent, clearances, fuel, judge) {
         Ok(report) => report,
         Err(refusal) => return format!("refused {} {}\n", refusal.number, refusal.place),
     };

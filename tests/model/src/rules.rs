@@ -336,7 +336,12 @@ impl Table {
         let rule = self.rule(question.code);
         rule.allowed
             .holds(question)
-            .then(|| Labels { place: rule.place.label(question), result: rule.result.label(question) })
+            .then(|| Labels { place: rule.place.label(question), result: self.result(question) })
+    }
+
+    /// The result label that the rule names, also where it does not allow the command.
+    pub fn result(&self, question: &Question) -> Label {
+        self.rule(question.code).result.label(question)
     }
 
     /// Whether a run may start with this rule memory: it is empty, or an allowed row of this table.

@@ -1,7 +1,7 @@
-//! Document 01's readings, starred and unstarred, as document 02's U1, U2 and U4 leave them, and these changes' own
-//! cases, on both engines.
+//! Document 01's readings, starred and unstarred, as document 02's U1, U2, U4 and U5 leave them, and these changes'
+//! own cases, on both engines.
 
-use model::engine::{plain, tagged, Handler, Lent, Report};
+use model::engine::{plain, tagged, Handler, Lent, Report, CLEARED_FOR_ALL};
 use model::machine::{Kind, Line, Stop};
 use model::page::{page, LINES};
 use model::rules::{standard, LabelTree, Question, Table, YesNoTree, STANDARD};
@@ -31,12 +31,22 @@ fn end(label: Label) -> Line {
 }
 
 fn run_with(sheet: &[Command], cells: &[Atom], fuel: u64, lines: usize) -> Result<Run, Refusal> {
+    run_cleared(sheet, cells, &CLEARED_FOR_ALL, fuel, lines)
+}
+
+fn run_cleared(
+    sheet: &[Command],
+    cells: &[Atom],
+    clearances: &[i64],
+    fuel: u64,
+    lines: usize,
+) -> Result<Run, Refusal> {
     let sheet = encode(sheet);
     let mut by_plain = Lent::roomy(cells, lines);
-    let plain = plain(&sheet, &mut by_plain, fuel);
+    let plain = plain(&sheet, &mut by_plain, clearances, fuel);
     let sample = Sample::of(&Table::parse(&STANDARD).unwrap());
     let mut lent = Lent::roomy(cells, lines);
-    let tagged = tagged(&sheet, &STANDARD, sample.handler(), &mut lent, fuel);
+    let tagged = tagged(&sheet, &STANDARD, sample.handler(), &mut lent, clearances, fuel);
     assert_eq!(tagged.wrong, None);
     let report = match (plain, tagged.answer) {
         (Ok(plain), Ok(tagged)) => {
@@ -199,7 +209,7 @@ fn a_denied_sum_is_stop_6_whatever_it_is() {
     let run = |top| {
         let mut lent = Lent::roomy(&[Atom { number: i64::MAX, label: 0 }, Atom { number: 1, label: 1 }], 5);
         let sheet = encode(&[Push(1 - top), Load, Push(top), Load, Add]);
-        let run = tagged(&sheet, &table, sample.handler(), &mut lent, 10);
+        let run = tagged(&sheet, &table, sample.handler(), &mut lent, &CLEARED_FOR_ALL, 10);
         assert_eq!(run.wrong, None);
         let report = run.answer.unwrap();
         (report.stop, report.steps, lent.rule_memory)
@@ -249,7 +259,7 @@ fn the_shortest_of_four_runs_sets_the_room() {
         let [numbers, line_labels, kinds, pages] = lengths.map(|length| vec![7; length]);
         let mut lent = Lent { numbers, line_labels, kinds, pages, ..Lent::roomy(&CELLS, 0) };
         let sheet = encode(&[Push(4), OutputTo(3)]);
-        let report = plain(&sheet, &mut lent, 10).unwrap();
+        let report = plain(&sheet, &mut lent, &CLEARED_FOR_ALL, 10).unwrap();
         assert_eq!((report.stop, report.lines), (Stop::End, 2));
         let laid = |words: [i64; 2], length| [&words[..], &vec![7; length - 2]].concat();
         let [numbers, line_labels, kinds, pages] = lengths;
@@ -258,9 +268,9 @@ fn the_shortest_of_four_runs_sets_the_room() {
         assert_eq!(lent.kinds, laid([0, 1], kinds));
         assert_eq!(lent.pages, laid([3, 0], pages));
         let before = lent.clone();
-        assert!(plain(&sheet, &mut lent, 1_000_001).is_err());
+        assert!(plain(&sheet, &mut lent, &CLEARED_FOR_ALL, 1_000_001).is_err());
         assert_eq!(lent, before);
-        let report = plain(&sheet.repeat(2), &mut lent, 10).unwrap();
+        let report = plain(&sheet.repeat(2), &mut lent, &CLEARED_FOR_ALL, 10).unwrap();
         assert_eq!((report.stop, report.place, report.lines), (Stop::OutputFull, 4, 2));
         assert_eq!(lent.kinds, laid([0, 0], kinds));
         assert_eq!(lent.pages, laid([3, 3], pages));
@@ -354,19 +364,23 @@ fn output_to_has_a_row_of_its_own() {
     }
 }
 
-#[test]
-fn output_to_is_under_outputs_rule() {
-    // Output only of public numbers.
+/// A run on the tag engine under rules that allow lines of public numbers only.
+fn run_public(sheet: &[Command], clearances: &[i64]) -> Run {
     let mut table = Table::parse(&STANDARD).unwrap();
     table.rules[3].allowed = YesNoTree::Flows(LabelTree::Input(1), LabelTree::Empty);
-    let bytes = table.bytes();
     let sample = Sample::of(&table);
+    let mut lent = Lent::roomy(&CELLS, 5);
+    let run = tagged(&encode(sheet), &table.bytes(), sample.handler(), &mut lent, clearances, 10);
+    assert_eq!(run.wrong, None);
+    let report = run.answer.unwrap();
+    Run { report, lines: lent.lines(&report), lent }
+}
+
+#[test]
+fn output_to_is_under_outputs_rule() {
     let run = |cell, print| {
-        let mut lent = Lent::roomy(&CELLS, 5);
-        let run = tagged(&encode(&[Push(cell), Load, print]), &bytes, sample.handler(), &mut lent, 10);
-        assert_eq!(run.wrong, None);
-        let report = run.answer.unwrap();
-        (report.stop, lent.lines(&report), lent.rule_memory)
+        let run = run_public(&[Push(cell), Load, print], &CLEARED_FOR_ALL);
+        (run.report.stop, run.lines, run.lent.rule_memory)
     };
     assert_eq!(run(0, Output), (Stop::End, vec![line(7, 0), end(0)], vec![4, 0, 0, -1, -1, 0, 0]));
     assert_eq!(
@@ -384,7 +398,258 @@ fn start_with_rule_memory(memory: [i64; 7]) -> Result<Report, Refusal> {
     let sample = Sample::of(&Table::parse(&STANDARD).unwrap());
     let mut lent = Lent::roomy(&CELLS, 10);
     lent.rule_memory = memory.to_vec();
-    tagged(&[], &STANDARD, sample.handler(), &mut lent, 10).answer
+    tagged(&[], &STANDARD, sample.handler(), &mut lent, &CLEARED_FOR_ALL, 10).answer
+}
+
+/// Every page for all owners, but this one for these.
+fn one_closed(page: u8, owners: Label) -> [i64; 16] {
+    let mut clearances = CLEARED_FOR_ALL;
+    clearances[usize::from(page)] = owners.into();
+    clearances
+}
+
+/// Every page for no owner, but this one for these.
+fn others_closed(page: u8, owners: Label) -> [i64; 16] {
+    let mut clearances = [0; 16];
+    clearances[usize::from(page)] = owners.into();
+    clearances
+}
+
+/// R1's cells, and one whose number is 4, with another label.
+fn and_cell(label: Label) -> [Atom; 3] {
+    [CELLS[0], CELLS[1], Atom { number: 4, label }]
+}
+
+#[test]
+fn a_line_goes_out_where_its_page_is_cleared_for_it() {
+    const ALL: Label = Label::MAX;
+    for (label, clearance, goes) in [
+        (0, 0, true),
+        (0, ALL, true),
+        (0b101, 0b101, true),
+        (0b101, 0b111, true),
+        (0b101, 0b100, false),
+        (0b101, 0b001, false),
+        (0b101, 0b1010, false),
+        (0b101, 0, false),
+        (0b101, !0b100, false),
+        (1, 1, true),
+        (1, ALL - 1, false),
+        (1 << 31, 1 << 31, true),
+        (1 << 31, ALL >> 1, false),
+        (ALL, ALL, true),
+        (ALL, ALL - 1, false),
+        (ALL, ALL >> 1, false),
+    ] {
+        for to in 0..16 {
+            let run = |print, clearances: &[i64]| {
+                let run = run_cleared(&[Push(2), Load, print], &and_cell(label), clearances, 9, 9).unwrap();
+                (run.report.stop, run.lines)
+            };
+            // No other page's clearance matters, whichever way. The end line is public, and goes.
+            let expected = match goes {
+                true => (Stop::End, vec![line_on(to, 4, label), end(0)]),
+                false => (Stop::NotCleared, vec![]),
+            };
+            assert_eq!(run(OutputTo(to), &one_closed(to, clearance)), expected, "{label:x} to {clearance:x}");
+            assert_eq!(run(OutputTo(to), &others_closed(to, clearance)), expected);
+            if to == 0 {
+                assert_eq!(run(Output, &one_closed(0, clearance)), expected);
+                assert_eq!(run(Output, &others_closed(0, clearance)), expected);
+            }
+        }
+    }
+}
+
+#[test]
+fn a_line_that_is_not_cleared_changes_only_what_the_rule_memory_keeps() {
+    // A cell and a line are written, then a call branches on a secret and prints, which makes the line a secret too.
+    let before = [Push(9), Push(0), Store, Push(3), Output, Push(1), Load, Push(9), Call];
+    for (print, code, to) in [(Output, 4, 0), (OutputTo(0), 12, 0), (OutputTo(15), 12, 15)] {
+        let sheet = [&before[..], &[Bnz(1), Push(6), print, Ret]].concat();
+        let run = |fuel| run_cleared(&sheet, &CELLS, &one_closed(to, 0b110), fuel, 5).unwrap();
+        let (spent, cut) = (run(11), run(12));
+        let Report { faults, kernel_steps, .. } = cut.report;
+        assert_eq!((spent.report.stop, spent.report.steps), (Stop::AllowanceSpent, 11));
+        assert_eq!(cut.report, Report { stop: Stop::NotCleared, faults, kernel_steps, ..spent.report });
+        assert_eq!((cut.report.place_label, cut.report.depth, cut.report.lines), (1, 2, 1));
+        // The rule was asked: that is a fault, and its row is there.
+        assert_eq!(faults, spent.report.faults + 1);
+        assert!(kernel_steps > spent.report.kernel_steps);
+        assert_eq!(cut.lent, Lent { rule_memory: vec![code, 1, 0, -1, -1, 1, 1], ..spent.lent });
+        let cleared = run_with(&sheet, &CELLS, 12, 5).unwrap();
+        assert_eq!(cleared.lent.rule_memory, cut.lent.rule_memory);
+        assert_eq!((cleared.report.faults, cleared.report.kernel_steps), (faults, kernel_steps));
+    }
+    // Where the row is there already, it is no fault.
+    let prints = [Push(1), Load, Push(1), Load, OutputTo(3), OutputTo(2)];
+    let matched = run_cleared(&prints, &CELLS, &one_closed(2, 0), 9, 9).unwrap();
+    let first = run_with(&prints, &CELLS, 5, 9).unwrap();
+    assert_eq!((matched.report.stop, matched.report.steps, matched.report.depth), (Stop::NotCleared, 5, 1));
+    assert_eq!(matched.report.faults, first.report.faults);
+    assert_eq!(matched.report.kernel_steps, first.report.kernel_steps);
+    assert_eq!(matched.lent.rule_memory, [12, 0, 1, -1, -1, 0, 1]);
+}
+
+#[test]
+fn a_run_does_not_go_on_without_a_line() {
+    // The public line after a secret that page 3 is closed to.
+    let sheet = [Push(0), Load, OutputTo(3), Push(1), Load, OutputTo(3), Push(0), Load, OutputTo(3)];
+    let run = |owners| {
+        let run = run_cleared(&sheet, &CELLS, &one_closed(3, owners), 99, 9).unwrap();
+        (run.report.stop, run.report.place, run.lines)
+    };
+    assert_eq!(run(0b10), (Stop::NotCleared, 5, vec![line_on(3, 7, 0)]));
+    let lines = [line_on(3, 7, 0), line_on(3, 5, 1), line_on(3, 7, 0), end(0)];
+    assert_eq!(run(0b01), (Stop::End, 9, lines.to_vec()));
+}
+
+#[test]
+fn stops_before_and_after_10() {
+    let stop = |sheet: &[Command], clearances: &[i64], fuel, room| {
+        let run = run_cleared(sheet, &CELLS, clearances, fuel, room).unwrap();
+        (run.report.stop as u8, run.report.steps, run.report.lines)
+    };
+    for (print, to) in [(Output, 0), (OutputTo(0), 0), (OutputTo(1), 1), (OutputTo(15), 15)] {
+        let secret = [Push(1), Load, print];
+        assert_eq!(stop(&secret, &one_closed(to, 0), 3, 1), (10, 2, 0));
+        // The allowance, a value that is missing, and what is not allowed come before it.
+        assert_eq!(stop(&secret, &one_closed(to, 0), 2, 1), (1, 2, 0));
+        assert_eq!(stop(&[print], &[0; 16], 3, 1), (3, 0, 0));
+        let hidden = [Push(1), Load, Bnz(1), print];
+        assert_eq!(stop(&hidden, &[0; 16], 9, 0), (3, 3, 0));
+        assert_eq!(stop(&[Push(1), Load, Push(4), Call, Pop, print], &[0; 16], 9, 0), (3, 5, 0));
+        let denied = run_public(&secret, &one_closed(to, 0));
+        assert_eq!((denied.report.stop, denied.lines), (Stop::NotAllowed, vec![]));
+        assert_eq!(denied.lent.rule_memory, [print.code().into(), 0, 1, -1, -1, -1, -1]);
+        // Room comes after it.
+        assert_eq!(stop(&secret, &one_closed(to, 0), 3, 0), (10, 2, 0));
+        assert_eq!(stop(&secret, &one_closed(to, 1), 3, 0), (8, 2, 0));
+        let second = [Push(2), print, Push(1), Load, print];
+        assert_eq!(stop(&second, &one_closed(to, 0), 9, 1), (10, 4, 1));
+        assert_eq!(stop(&second, &one_closed(to, 1), 9, 1), (8, 4, 1));
+    }
+}
+
+#[test]
+fn the_end_line_needs_page_0() {
+    // The last lines are on page 9; the place at the end is hidden.
+    let sheet = [Push(3), OutputTo(9), Push(1), Load, Bnz(1)];
+    let run = |clearances: &[i64], fuel, room| run_cleared(&sheet, &CELLS, clearances, fuel, room).unwrap();
+    let whole = run(&CLEARED_FOR_ALL, 99, 9);
+    assert_eq!((whole.report.stop, &whole.lines[..]), (Stop::End, &[line_on(9, 3, 0), end(1)][..]));
+    // It is tested first: before the room, and before the allowance.
+    for (fuel, room) in [(99, 9), (99, 1), (5, 9), (5, 1)] {
+        for owners in [0, 0b10, !1] {
+            let cut = run(&one_closed(0, owners), fuel, room);
+            let report = Report { stop: Stop::NotCleared, lines: 1, ..whole.report };
+            assert_eq!((cut.report, &cut.lines[..]), (report, &[line_on(9, 3, 0)][..]));
+            assert_eq!((report.steps, report.place, report.place_label), (5, 5, 1));
+            let first = |word| [&[word][..], &vec![0; room - 1]].concat();
+            let (numbers, pages) = (first(3), first(9));
+            let (line_labels, kinds) = (first(0), first(0));
+            assert_eq!(cut.lent, Lent { numbers, line_labels, kinds, pages, ..whole.lent.clone() });
+        }
+        // Of all pages it is page 0 that matters, and neither the last nor the one last used.
+        let stop = if room == 1 { Stop::OutputFull } else { Stop::End };
+        assert_eq!(run(&others_closed(0, 1), fuel, room).report.stop, stop);
+        assert_eq!(run(&others_closed(9, 1), fuel, room).report.stop, Stop::NotCleared);
+    }
+    // One step before the end it is the allowance.
+    assert_eq!(run(&one_closed(0, 0), 4, 1).report.stop, Stop::AllowanceSpent);
+    // A public end needs no owner.
+    let public = run_cleared(&[], &CELLS, &[0; 16], 0, 1).unwrap();
+    assert_eq!((public.report.stop, public.lines), (Stop::End, vec![end(0)]));
+}
+
+/// What plain and tag engine refuse, which must leave everything as it came.
+fn refusals(sheet: &[u8], table: &[u8], lent: &Lent, clearances: &[i64], fuel: u64) -> [Option<Refusal>; 2] {
+    let sample = Sample::of(&Table::parse(&STANDARD).unwrap());
+    let (mut by_plain, mut by_tagged) = (lent.clone(), lent.clone());
+    let plain = plain(sheet, &mut by_plain, clearances, fuel).err();
+    let tagged = tagged(sheet, table, sample.handler(), &mut by_tagged, clearances, fuel).answer.err();
+    assert!(plain.is_none() || by_plain == *lent);
+    assert!(tagged.is_none() || by_tagged == *lent);
+    [plain, tagged]
+}
+
+#[test]
+fn clearances_refused() {
+    const ALL: i64 = u32::MAX as i64;
+    let refused = |clearances: &[i64]| {
+        let [plain, tagged] = refusals(&[], &STANDARD, &Lent::roomy(&CELLS, 1), clearances, 0);
+        assert_eq!(plain, tagged);
+        plain
+    };
+    let at = |place| Some(Refusal::new(13, place));
+    assert_eq!((refused(&[0; 16]), refused(&[ALL; 16])), (None, None));
+    for page in 0..16 {
+        for word in [ALL + 1, ALL + 2, -1, -ALL, i64::MIN, i64::MAX] {
+            let mut clearances = [ALL; 16];
+            clearances[page] = word;
+            assert_eq!(refused(&clearances), at(page), "{word}");
+            // The first of several.
+            clearances[page + 1..].fill(-7);
+            assert_eq!(refused(&clearances), at(page), "{word}");
+        }
+        for word in [0, 1, ALL - 1, ALL] {
+            let mut clearances = [0; 16];
+            clearances[page] = word;
+            assert_eq!(refused(&clearances), None);
+        }
+    }
+    // Another number of words comes before what they are.
+    for count in [0, 1, 15, 17, 32] {
+        for word in [0, ALL, ALL + 1, -1] {
+            assert_eq!(refused(&vec![word; count]), at(16), "{count} of {word}");
+        }
+    }
+}
+
+#[test]
+fn refusals_before_and_after_13() {
+    let lent = Lent::roomy(&CELLS, 1);
+    let short = |length| Lent { stack: vec![0; length], ..lent.clone() };
+    let labelled = |labels: &[i64]| Lent { labels: labels.to_vec(), ..lent.clone() };
+    let no_row = Lent { rule_memory: vec![1; 7], ..lent.clone() };
+    for (clearances, place) in [(&[-1; 16][..], 0), (&one_closed(15, 0)[..15], 16), (&[0; 17], 16)] {
+        let both = |number, place| [Some(Refusal::new(number, place)); 2];
+        let refused = |sheet: &[u8], table: &[u8], lent: &Lent, fuel| {
+            // What comes after 13 is met where the clearances are as they should be.
+            let [plain, tagged] = refusals(sheet, table, lent, &CLEARED_FOR_ALL, fuel);
+            let numbers = [plain, tagged].map(|refusal| refusal.map_or(0, |refusal| refusal.number));
+            (refusals(sheet, table, lent, clearances, fuel), numbers)
+        };
+        let thirteen = both(13, place);
+        // The sheet, the number of cells and their labels come first.
+        assert_eq!(refused(&[3, 0], &STANDARD, &lent, 0), (both(2, 1), [2, 2]));
+        assert_eq!(refused(&[5, 0], &STANDARD, &lent, 0), (both(3, 0), [3, 3]));
+        assert_eq!(refused(&[0x0c, 16], &STANDARD, &lent, 0), (both(12, 0), [12, 12]));
+        assert_eq!(refused(&[3; 4097], &STANDARD, &lent, 0), (both(1, 4096), [1, 1]));
+        assert_eq!(refused(&[], &STANDARD, &labelled(&[0]), 0), (both(4, 1), [4, 4]));
+        assert_eq!(refused(&[], &STANDARD, &labelled(&[0, -1]), 0), (both(5, 1), [5, 5]));
+        // The table, the rule memory, the spaces and the allowance come later.
+        assert_eq!(refused(&[], &[], &lent, 0), (thirteen, [0, 6]));
+        assert_eq!(refused(&[], &STANDARD, &no_row, 0), (thirteen, [0, 7]));
+        assert_eq!(refused(&[], &STANDARD, &short(767), 0), (thirteen, [8, 8]));
+        assert_eq!(refused(&[], &STANDARD, &lent, 1_000_001), (thirteen, [9, 9]));
+        assert_eq!(refused(&[], &STANDARD, &lent, 0), (thirteen, [0, 0]));
+    }
+}
+
+#[test]
+fn page_clears_every_page_for_all_owners() {
+    // Lines of all owners, and one of none, on each page; the end line is of all owners too.
+    let cell = [&[0x40][..], &7i64.to_le_bytes(), &[0xff; 4]].concat();
+    let prints = (0..16).flat_map(|to| [Push(0), Load, OutputTo(to), Push(8), OutputTo(to)]);
+    let sheet = encode(&prints.chain([Push(0), Load, Bnz(1)]).collect::<Vec<_>>());
+    let printed = |reader: u32| page(&[&cell[..], &[0x42], &reader.to_le_bytes(), &[0x43], &sheet].concat());
+    let both = |to| format!("{to} 7 ffffffff\n{to} 8 00000000\n");
+    assert_eq!(printed(u32::MAX), (0..16).map(both).collect::<String>() + "0 end ffffffff\n");
+    // What the reader may not see stops nothing.
+    for reader in [0, 1, u32::MAX - 1] {
+        assert_eq!(printed(reader), (0..16).map(|to| format!("{to} 8 00000000\n")).collect::<String>());
+    }
 }
 
 #[test]
@@ -450,7 +715,7 @@ fn cells_refused() {
         let mut lent = Lent::roomy(&[], 0);
         lent.values = values.to_vec();
         lent.labels = labels.to_vec();
-        plain(&[], &mut lent, 0).err()
+        plain(&[], &mut lent, &CLEARED_FOR_ALL, 0).err()
     };
     assert_eq!(run(&[1, 2], &[0]), Some(Refusal::new(4, 1)));
     assert_eq!(run(&[0; 2000], &[0; 1500]), Some(Refusal::new(4, 1500)));
@@ -491,7 +756,7 @@ fn spaces_refused() {
         lent.program.truncate(program);
         lent.stack.truncate(stack);
         lent.handler.truncate(words);
-        tagged(&[3, 3], &STANDARD, handler, &mut lent, fuel).answer.err()
+        tagged(&[3, 3], &STANDARD, handler, &mut lent, &CLEARED_FOR_ALL, fuel).answer.err()
     };
     let enough = 2 * handler.count;
     assert_eq!(run(4, 768, enough, 1_000_000), None);
@@ -551,7 +816,8 @@ fn the_standard_table_is_the_standard_rules() {
 #[test]
 fn a_wrong_handler_is_found() {
     let handler = Handler { count: 1, words: &[0x0b, 0] };
-    let wrong = tagged(&encode(&r1()), &STANDARD, handler, &mut Lent::roomy(&CELLS, 9), 100).wrong;
+    let mut lent = Lent::roomy(&CELLS, 9);
+    let wrong = tagged(&encode(&r1()), &STANDARD, handler, &mut lent, &CLEARED_FOR_ALL, 100).wrong;
     assert!(wrong.is_some());
     assert!(flows(0b101, 0b111) && !flows(0b1000, 0b111));
 }

@@ -10,6 +10,7 @@ use lib.ListN.{length}
 use Rattle.word.specs.Lay.{laid}
 use Rattle.word.specs.Wrap.{Signed}
 use Rattle.machine.specs.Atom.{Atom, Entry, value}
+use Rattle.machine.specs.Environment.{Environment}
 use Rattle.machine.specs.State.{State, Stop, stopNumber}
 use Rattle.machine.specs.Step.{stopped, stepped, stackLimit, atom, goto, next}
 use Rattle.machine.proofs.Stops.{stop-other}
@@ -27,17 +28,17 @@ use Rattle.engine.proofs.Link.Record.{pushed-entry, following-next}
 use Rattle.engine.proofs.Link.Represents.{Represents, Simulates}
 
 -- a stop, which is no line, is the run's
-pub stop-simulates : (room : ℕ) (o₀ : Output) (m : Machine) (l : Lent) (o : Output) (x : Stop)
-    → Simulates room o₀ m l o (stopped x) (after (outcome m (stopNumber x)) l)
+pub stop-simulates : (env : Environment) (o₀ : Output) (m : Machine) (l : Lent) (o : Output) (x : Stop)
+    → Simulates env o₀ m l o (stopped x) (after (outcome m (stopNumber x)) l)
 unfolding emitOf
-stop-simulates room o₀ m l o x = (rw (stop-other x prints (omega arith)), refl)
+stop-simulates env o₀ m l o x = (rw (stop-other x prints (omega arith)), refl)
 
-module _ (room : ℕ) {o₀ : Output} {s : State} {l : Lent} {o : Output} (r : Represents o₀ s (machineOf s) l o) where
+module _ (env : Environment) {o₀ : Output} {s : State} {l : Lent} {o : Output} (r : Represents o₀ s (machineOf s) l o) where
   -- the record that a command leaves is that of t, which has written no line; the stack is laid over the stack that was
   pub carried : (p : Atom) (es : List Entry) (memory : List Atom) {m : Machine} {st : List ℤ} {c : Cells}
       → m ≡ machine (p .number) (p .label) (length es) (length (s .lines))
       → st ≡ laid (stackWords es) (l .stack) → c ≡ cellWords memory
-      → Simulates room o₀ (machineOf s) l o
+      → Simulates env o₀ (machineOf s) l o
       (stepped (record { pc = p; stack = es; memory = memory; lines = s .lines; steps = suc (s .steps) }))
       (after (outcome m carriedOut) (lent st c))
   unfolding emitOf
@@ -50,7 +51,7 @@ module _ (room : ℕ) {o₀ : Output} {s : State} {l : Lent} {o : Output} (r : R
   -- the place and the stack change, the cells stay
   pub goto-carried : (p : Atom) (es : List Entry) {m : Machine} {st : List ℤ}
       → m ≡ machine (p .number) (p .label) (length es) (length (s .lines)) → st ≡ laid (stackWords es) (l .stack)
-      → Simulates room o₀ (machineOf s) l o (goto s p es) (after (outcome m carriedOut) (lent st (l .cells)))
+      → Simulates env o₀ (machineOf s) l o (goto s p es) (after (outcome m carriedOut) (lent st (l .cells)))
   goto-carried p es e g = carried p es (s .memory) e g (r .cells)
 
   -- a value stands in place of one that is dropped, and the place is the next
@@ -58,7 +59,7 @@ module _ (room : ℕ) {o₀ : Output} {s : State} {l : Lent} {o : Output} (r : R
       → 768 ≤ length (l .stack) → length es < stackLimit → Held es (l .stack)
       → length es ≡ length (s .stack) - below - 1 → slotAt (l .stack) (length (s .stack)) below .kind ≡ 0
       → m ≡ machine (s .pc .number) (s .pc .label) (length es) (length (s .lines))
-      → Simulates room o₀ (machineOf s) l o (next s p (value (atom n label) ∷ es)) (withStack l (refilling m (l .stack) n label p))
+      → Simulates env o₀ (machineOf s) l o (next s p (value (atom n label) ∷ es)) (withStack l (refilling m (l .stack) n label p))
   refill-carried es n label p below on space fits held depth kind e =
       goto-carried _ _
       (rw (e, pushed-entry _ _ (length es) _ fits) (following-next _ _ _ _ p on))

@@ -1,6 +1,7 @@
 -- Each command on words finds what the machine's command asks with, and does what it does, under any rule.
 -- Assumes nothing.
 use mathlib.Core.Path.{_≡_, refl, ap, ap₂, _∙_}
+use mathlib.Core.Option.{Option, none, some}
 use mathlib.Core.Bool.{Bool, true, false}
 use mathlib.Core.List.{List, _∷_, map}
 use Prim.Native.Nat.{ℕ, zero, suc, _-_, _≤_, _<_}
@@ -17,8 +18,10 @@ use Rattle.word.specs.Exact.{isSigned, exactly}
 use Rattle.program.specs.declared.Command.{Command}
 use Rattle.program.specs.declared.Command.the-variants.{Add, Sub, Pop, Output, Push, Load, Store, Jump, Bnz, Call, Ret, OutputTo}
 use Rattle.machine.specs.Atom.{Atom, Entry, value, frame, numberLine}
-use Rattle.machine.specs.State.{State, overflow, outputFull, stackFull}
-use Rattle.machine.specs.Step.{Outcome, Request, provided, stackLimit, making, request, atom, next, printing, branch}
+use Rattle.machine.specs.Environment.{Environment, barrier}
+use Rattle.machine.specs.State.{State, Stop, overflow, stackFull}
+use Rattle.machine.specs.Step.{Outcome, Request, provided, unlessBarred, stackLimit, making, request, atom, next, printing, branch}
+use Rattle.machine.proofs.Barrier.{barrier-held, barred-none}
 use Rattle.stack.specs.Words.{machine, pushed, dropped, gone, slotAt}
 use Rattle.step.specs.declared.find.Inputs.{Inputs}
 use Rattle.step.specs.Lent.{Cells, cells, Lent, After, after, OnStack, withStack}
@@ -44,18 +47,18 @@ branch-is (pos zero) pc operand on to = addWrap-id pc (pos 1) on
 branch-is (pos (suc n)) pc operand on to = addWrap-id pc operand to
 branch-is (negsuc n) pc operand on to = addWrap-id pc operand to
 
-module _ {room : ℕ} {o₀ : Memory.Output} {s : State} {l : Lent} {o : Memory.Output} (r : Represents o₀ s (machineOf s) l o)
-    (h : Sound room o₀ s l) (on : Signed 64 (s .pc .number +ℤ pos 1)) where
+module _ {env : Environment} {o₀ : Memory.Output} {s : State} {l : Lent} {o : Memory.Output} (r : Represents o₀ s (machineOf s) l o)
+    (h : Sound env o₀ s l) (on : Signed 64 (s .pc .number +ℤ pos 1)) where
   -- an outcome of the machine, and what is left on words
   abbrev Sim : Outcome → After → Type 0
-  Sim = Simulates room o₀ (machineOf s) l o
+  Sim = Simulates env o₀ (machineOf s) l o
 
   -- what the command c asks, and what it finds on words
   abbrev Asks : Command → Request → Inputs → Type 0
-  Asks c = Looks c (machineOf s) l room o₀ o
+  Asks c = Looks c (machineOf s) l env o₀ o
 
   abbrev Found : Command → Type 0
-  Found c = Asks c (request room c s) (found c (machineOf s) l)
+  Found c = Asks c (request env c s) (found c (machineOf s) l)
 
   first-is : first (machineOf s) (l .stack) ≡ topSlot (s .stack)
   first-is = slot-top (s .stack) (r .stack) (h .labels .stack) (h .depth) (h .space)
@@ -95,7 +98,7 @@ module _ {room : ℕ} {o₀ : Memory.Output} {s : State} {l : Lent} {o : Memory.
       let d : suc (length rest) ≤ stackLimit = depth e in
       let size : length (s .stack) ≡ suc (length rest) = ap length e in
       let kind : slotAt (l .stack) (length (s .stack)) 0 .kind ≡ 0 = rw (first-is, e) in
-      refill-carried room r rest n label p 0 on (h .space) (omega arith) (under-one e) (omega arith) kind
+      refill-carried env r rest n label p 0 on (h .space) (omega arith) (under-one e) (omega arith) kind
       (rw e (dropped-entry _ _ _ _))
 
   refill-two : (rest : List Entry) (a b : Atom) (n : ℤ) (label p : ℕ) → s .stack ≡ value a ∷ value b ∷ rest
@@ -104,7 +107,7 @@ module _ {room : ℕ} {o₀ : Memory.Output} {s : State} {l : Lent} {o : Memory.
       let d : suc (suc (length rest)) ≤ stackLimit = depth e in
       let size : length (s .stack) ≡ suc (suc (length rest)) = ap length e in
       let kind : slotAt (l .stack) (length (s .stack)) 1 .kind ≡ 0 = rw (second-is, e) in
-      refill-carried room r rest n label p 1 on (h .space) (omega arith) (under-two e) (omega arith) kind
+      refill-carried env r rest n label p 1 on (h .space) (omega arith) (under-two e) (omega arith) kind
       (rw e (dropped-entries _ _ _ _))
 
   -- ══════════════════════════════════════════════════════════════════════════════════════════
@@ -121,7 +124,7 @@ module _ {room : ℕ} {o₀ : Memory.Output} {s : State} {l : Lent} {o : Memory.
       by : (t : Bool) → Sim (provided t overflow (next s p (value (atom n label) ∷ rest)))
           (withStack l (arithFrom p label (machineOf s) (l .stack) (choose t (Number n) Outside)))
       by true = refill-two rest a b n label p e
-      by false = stop-simulates room o₀ (machineOf s) l o overflow
+      by false = stop-simulates env o₀ (machineOf s) l o overflow
 
   -- what both ask and do
   making-looks : (c : Command) (make : ℤ → ℤ → ℤ)
@@ -153,21 +156,21 @@ module _ {room : ℕ} {o₀ : Memory.Output} {s : State} {l : Lent} {o : Memory.
   unfolding request findOf oneValue effectOf popEffect
   pop-looks =
       rw first-is (value-needed (Asks Pop) (s .stack) _ _ _ refl (λ a rest e.
-      (rw e, λ p _. goto-carried room r _ rest (rw (e, dropped-entry) (following-next _ _ _ _ p on)) (under-one e))))
+      (rw e, λ p _. goto-carried env r _ rest (rw (e, dropped-entry) (following-next _ _ _ _ p on)) (under-one e))))
 
-  -- the line is written where there is room
-  line-written : (page : ℤ) (a : Atom) (rest : List Entry) (p label : ℕ) (b : Bool) → s .stack ≡ value a ∷ rest
-      → ltb (length (s .lines)) room ≡ b
-      → Sim (provided b outputFull (printing s p rest (numberLine page (a .number) label)))
+  -- the line is written where nothing holds it back
+  line-written : (page : ℤ) (a : Atom) (rest : List Entry) (p label : ℕ) (b : Option Stop) → s .stack ≡ value a ∷ rest
+      → barrier env (length (s .lines)) (numberLine page (a .number) label) ≡ b
+      → Sim (unlessBarred b (printing s p rest (numberLine page (a .number) label)))
       (after (outputEffect p label (machineOf s) page (l .stack)) l)
   unfolding outputEffect emitOf writeOf
-  line-written page a rest p label false e t = (rw t, refl)
-  line-written page a rest p label true e t =
-      let fits : length (s .lines) < room = ltb-true _ _ t in
-      rw (t, first-is, e) (
+  line-written page a rest p label (some x) e t = (rw (first-is, e, t), refl)
+  line-written page a rest p label none e t =
+      let fits : length (s .lines) < env .room = barred-none env _ _ (barrier-held env _ _ t) .1 in
+      rw (first-is, e, t) (
         refl,
         record {
-          machine = rw (dropped-entry, following-next _ _ _ _ p on, printed-line _ _ _ _ room fits, length-append, add-one);
+          machine = rw (dropped-entry, following-next _ _ _ _ p on, printed-line _ _ _ _ (env .room) fits, length-append, add-one);
           stack = under-one e;
           cells = r .cells;
           output = line-at (s .lines) (numberLine page (a .number) label) o o₀ (r .output) (omega (arith, h .fits));
@@ -179,13 +182,13 @@ module _ {room : ℕ} {o₀ : Memory.Output} {s : State} {l : Lent} {o : Memory.
   unfolding request findOf oneValue effectOf
   output-looks =
       rw first-is (value-needed (Asks Output) (s .stack) _ _ _ refl (λ a rest e.
-      (rw e, λ p label. line-written (pos 0) a rest p label (ltb (length (s .lines)) room) e refl)))
+      (rw e, λ p label. line-written (pos 0) a rest p label _ e refl)))
 
   pub output-to-looks : (page : ℤ) → Found (OutputTo page)
   unfolding request findOf oneValue effectOf
   output-to-looks page =
       rw first-is (value-needed (Asks (OutputTo page)) (s .stack) _ _ _ refl (λ a rest e.
-      (rw e, λ p label. line-written page a rest p label (ltb (length (s .lines)) room) e refl)))
+      (rw e, λ p label. line-written page a rest p label _ e refl)))
 
   pub push-looks : (n : ℤ) → Found (Push n)
   unfolding request findOf effectOf pushEffect
@@ -195,10 +198,10 @@ module _ {room : ℕ} {o₀ : Memory.Output} {s : State} {l : Lent} {o : Memory.
         room-needed (λ o (x : OnStack). Sim o (withStack l x)) (ltb (length (s .stack)) stackLimit) stackFull _ _ _
         (λ t.
         let fits : length (s .stack) < stackLimit = ltb-true _ _ t in
-        goto-carried room r _ _
+        goto-carried env r _ _
         (rw (pushed-entry _ _ (length (s .stack)) _ fits) (following-next _ _ _ _ p on))
         (stack-pushed _ _ _ (value (atom n label)) (s .stack) (l .stack) fits (h .space) (r .stack)))
-        (stop-simulates room o₀ (machineOf s) l o stackFull),
+        (stop-simulates env o₀ (machineOf s) l o stackFull),
   )
 
   -- ══════════════════════════════════════════════════════════════════════════════════════════
@@ -228,7 +231,7 @@ module _ {room : ℕ} {o₀ : Memory.Output} {s : State} {l : Lent} {o : Memory.
         λ p label.
             let stored : Atom = atom (b .number) label in
             rw (first-is, ap topSlot e, count, g, second-is, ap (λ es. topSlot (below es)) e)
-            (carried room r _ rest _
+            (carried env r _ rest _
             (rw (e, dropped-entries) (following-next _ _ _ _ p on))
             (under-two e)
             (ap₂ cells
@@ -244,7 +247,7 @@ module _ {room : ℕ} {o₀ : Memory.Output} {s : State} {l : Lent} {o : Memory.
   unfolding request findOf oneValue effectOf jumpEffect gone
   jump-looks =
       rw first-is (value-needed (Asks Jump) (s .stack) _ _ _ refl (λ a rest e.
-      (rw e, λ p _. goto-carried room r (atom (a .number) p) rest (rw (first-is, e, dropped-entry)) (under-one e))))
+      (rw e, λ p _. goto-carried env r (atom (a .number) p) rest (rw (first-is, e, dropped-entry)) (under-one e))))
 
   pub bnz-looks : (n : ℤ) → Signed 64 (s .pc .number +ℤ n) → Found (Bnz n)
   unfolding request findOf oneValue effectOf bnzEffect gone
@@ -252,7 +255,7 @@ module _ {room : ℕ} {o₀ : Memory.Output} {s : State} {l : Lent} {o : Memory.
       rw first-is (value-needed (Asks (Bnz n)) (s .stack) _ _ _ refl (λ a rest e. (
         rw e,
         λ p _.
-            goto-carried room r (atom (branch (a .number) (s .pc .number) n) p) rest
+            goto-carried env r (atom (branch (a .number) (s .pc .number) n) p) rest
             (rw (first-is, e, dropped-entry, branch-is (a .number) (s .pc .number) n on to)) (under-one e),
       )))
 
@@ -260,7 +263,7 @@ module _ {room : ℕ} {o₀ : Memory.Output} {s : State} {l : Lent} {o : Memory.
   unfolding request findOf oneFrame effectOf jumpEffect gone
   ret-looks =
       rw first-is (frame-needed (Asks Ret) (s .stack) _ _ _ refl (λ a rest e.
-      (rw e, λ p _. goto-carried room r (atom (a .number) p) rest (rw (first-is, e, dropped-entry)) (under-one e))))
+      (rw e, λ p _. goto-carried env r (atom (a .number) p) rest (rw (first-is, e, dropped-entry)) (under-one e))))
 
   pub call-looks : Found Call
   unfolding request findOf callValues effectOf callEffect gone
@@ -272,7 +275,7 @@ module _ {room : ℕ} {o₀ : Memory.Output} {s : State} {l : Lent} {o : Memory.
             let one : length rest < stackLimit = omega arith in
             let two : suc (length rest) < stackLimit = omega arith in
             let back = atom (s .pc .number +ℤ pos 1) label in
-            goto-carried room r (atom (a .number) p) (value b ∷ frame back ∷ rest)
+            goto-carried env r (atom (a .number) p) (value b ∷ frame back ∷ rest)
             (rw (first-is, e, dropped-entries, grown (length rest) one, grown (suc (length rest)) two))
             (rw (second-is, e, dropped-entries, addWrap-id (s .pc .number) (pos 1) on, grown (length rest) one)
             (stack-pushed _ _ _ (value b) (frame back ∷ rest) (l .stack) two (h .space)

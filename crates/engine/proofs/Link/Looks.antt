@@ -5,6 +5,7 @@ use mathlib.Core.Path.{_≡_}
 use lib.IntN.{pos}
 use Rattle.program.specs.declared.Command.{Command}
 use Rattle.program.specs.Command.{opcode, codeOf, operand}
+use Rattle.machine.specs.Environment.{Environment}
 use Rattle.machine.specs.Rule.{Input, present, missing, labelOf, Key}
 use Rattle.machine.specs.State.{stopNumber}
 use Rattle.machine.specs.Step.{Request, halt, ask}
@@ -38,6 +39,6 @@ module _ (c : Command) (m : Machine) (l : Lent) where
   abbrev pub effect : (p r : ℕ) → After
   effect p r = effectOf p r m (codeOf (opcode c)) (operand c) l
 
-  abbrev pub Looks : (room : ℕ) (o₀ o : Output) → Request → Inputs → Type 0
-  Looks room o₀ o (halt x) i = i ≡ halted (stopNumber x)
-  Looks room o₀ o (ask l1 l2 l3 k) i = (i ≡ finding l1 l2 l3) × ((p r : ℕ) → Simulates room o₀ m l o (k p r) (effect p r))
+  abbrev pub Looks : (env : Environment) (o₀ o : Output) → Request → Inputs → Type 0
+  Looks env o₀ o (halt x) i = i ≡ halted (stopNumber x)
+  Looks env o₀ o (ask l1 l2 l3 k) i = (i ≡ finding l1 l2 l3) × ((p r : ℕ) → Simulates env o₀ m l o (k p r) (effect p r))

@@ -1,9 +1,10 @@
 -- When lent words and the machine record represent a state of the machine, and when a command on words simulates a step.
-use Prim.Native.Nat.{ℕ, _≤_}
+use Prim.Native.Nat.{_≤_}
 use mathlib.Core.Path.{_≡_}
 use lib.ListN.{length}
 use Rattle.word.specs.Lay.{laid}
 use Rattle.machine.specs.State.{State, stopNumber}
+use Rattle.machine.specs.Environment.{Environment}
 use Rattle.machine.specs.Step.{Outcome, stopped, stepped, stackLimit}
 use Rattle.machine.specs.Holds.{LabelsInRange}
 use Rattle.stack.specs.declared.Machine.{Machine}
@@ -22,20 +23,20 @@ pub record Represents (o₀ : Output) (s : State) (m : Machine) (l : Lent) (o : 
   pub cells : l .cells ≡ cellWords (s .memory)
   pub output : o ≡ linesLaid (s .lines) o₀
 
--- what a run with room for n lines keeps: the spaces are long enough, the depth and the labels are in their bounds
-pub record Sound (n : ℕ) (o₀ : Output) (s : State) (l : Lent) : Type 0 where
+-- what a run keeps: the spaces are long enough, the depth and the labels are in their bounds
+pub record Sound (env : Environment) (o₀ : Output) (s : State) (l : Lent) : Type 0 where
   pub space : 768 ≤ length (l .stack)
   pub depth : length (s .stack) ≤ stackLimit
   pub labels : LabelsInRange s
-  pub fits : n ≤ room o₀
+  pub fits : env .room ≤ room o₀
 
 -- a command on words, with its line written, does what the machine's outcome says: stopped, it changes nothing; carried out, the words
 -- hold the next state, whose stack is laid over the stack space
-module _ (room : ℕ) (o₀ : Output) (m : Machine) (l : Lent) (o : Output) where
+module _ (env : Environment) (o₀ : Output) (m : Machine) (l : Lent) (o : Output) where
   abbrev pub Simulates : Outcome → After → Type 0
-  Simulates (stopped x) a = (emitOf room m (a .stepped) o ≡ emitted (went m (stopNumber x)) o) × (a .lent ≡ l)
+  Simulates (stopped x) a = (emitOf env m (a .stepped) o ≡ emitted (went m (stopNumber x)) o) × (a .lent ≡ l)
   Simulates (stepped t) a =
-      let e : Emitted = emitOf room m (a .stepped) o in
+      let e : Emitted = emitOf env m (a .stepped) o in
       (e .went .stop ≡ carriedOut)
       × Represents o₀ t (e .went .machine) (a .lent) (e .output)
       × (a .lent .stack ≡ laid (stackWords (t .stack)) (l .stack))

@@ -10,17 +10,20 @@ returns c =
     let l = c .before .before in
     let left = l .before in
     let e = left .before .before .before .before .before .before .before .before .before .before in
-    let g = e .before .before .before .before .before .before .before .before .before .before in
+    let pages = e .before .before .before .before .before .before .before .before in
+    let g = pages .before .before .before in
+    let clear = pages .given2 .ensures in
     let x = e .execute .ensures in (
-      tagged-left _ _ _ _ _ _ _ _ (e .execute .result) (g .given .result .words) _ _
+      tagged-left _ _ _ clear _ _ _ _ _ _ _ (e .execute .result) (g .given .result .words) _ _
           (c .of-answer .ensures) (g .given .ensures) (l .leave .ensures) (x .0),
-      promises-left _ _ _ _ _ _ _ _ (e .execute .result) _ (c .of-answer .ensures) (x .0) (x .1),
+      promises-left _ _ _ _ _ clear _ _ _ _ _ (e .execute .result) _ (c .of-answer .ensures) (x .0) (x .1),
     )
 
 pub luvrodan-tagged-spec : {M : Type 1} → statement M
 luvrodan-tagged-spec =
     tie.close
     (tie.spec
+    (λ c κs. search needs)
     (λ c κs. search needs)
     (λ c κs. search needs)
     (λ c κs. search needs)

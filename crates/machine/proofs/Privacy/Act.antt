@@ -11,11 +11,13 @@ use Rattle.word.specs.Exact.{isSigned}
 use Rattle.label.specs.Label.{join, flows}
 use Rattle.program.specs.declared.Command.{Command}
 use Rattle.program.specs.declared.Command.the-variants.{Add, Sub, Pop, Output, Push, Load, Store, Jump, Bnz, Call, Ret, OutputTo}
-use Rattle.machine.specs.Atom.{Atom, Entry}
+use Rattle.machine.specs.Atom.{Atom, Entry, Line}
 use Rattle.machine.specs.Rule.{missing, allowed, allowedIf, standard}
-use Rattle.machine.specs.State.{State, Stop, overflow, outputFull, stackFull}
-use Rattle.machine.specs.Step.{Outcome, stepped, stackLimit, provided, Request, withValue, withValues, withFrame}
+use Rattle.machine.specs.Environment.{Environment, barrier}
+use Rattle.machine.specs.State.{State, Stop, overflow, stackFull}
+use Rattle.machine.specs.Step.{Outcome, stepped, stackLimit, provided, unlessBarred, Request, withValue, withValues, withFrame}
 use Rattle.machine.specs.Step.{withCell, of, keyOf, decide, consult, making, outputting, request, execute, atom, branch, storing}
+use Rattle.machine.proofs.Barrier.{barred-all}
 use Rattle.machine.proofs.Request.{At, value-all, values-all, frame-all, cell-all, provided-all}
 use Rattle.machine.proofs.Step.{Gives}
 use Rattle.machine.proofs.Privacy.Seen.{Seen, see, joined, see-one, see-both, see-bottom}
@@ -55,6 +57,11 @@ provided-shows : (S : ℕ) (b : Bool) (x : Stop) (t : State) (w : View)
     → erase S t ≡ w → Gives (λ t. erase S t ≡ w) (provided b x (stepped t))
 provided-shows S b x t w e = provided-all (Gives (λ t. erase S t ≡ w)) b x (stepped t) (λ f. e) (λ f. tt)
 
+barred-shows : (S : ℕ) (env : Environment) (written : ℕ) (l : Line) (t : State) (w : View)
+    → erase S t ≡ w → Gives (λ t. erase S t ≡ w) (unlessBarred (barrier env written l) (stepped t))
+barred-shows S env written l t w e =
+    barred-all env written l (Gives (λ t. erase S t ≡ w)) (stepped t) (λ f g. e) (λ x b. tt)
+
 allowed-shows : (S : ℕ) (b : Bool) (p r : ℕ) (k : ℕ → ℕ → Outcome) (w : View)
     → (b ≡ true → Gives (λ t. erase S t ≡ w) (k p r)) → Gives (λ t. erase S t ≡ w) (decide (allowedIf b p r) k)
 allowed-shows S true p r k w h = h refl
@@ -75,13 +82,13 @@ making-shows S c s f e =
     (rw (see-one S increment (s .pc), see-both S f a b))))
 
 -- a line on a page, labelled by the join of the value's label and the place's
-outputting-shows : (S room : ℕ) (c : Command) (s : State) (page : ℤ)
+outputting-shows : (S : ℕ) (env : Environment) (c : Command) (s : State) (page : ℤ)
     → ((a : Atom) → standard (keyOf c s (of a) missing missing) ≡ allowed (s .pc .label) (join (a .label) (s .pc .label)))
-    → Shows S c s (prints (erase S s) page) (outputting room s page)
-outputting-shows S room c s page e =
+    → Shows S c s (prints (erase S s) page) (outputting env s page)
+outputting-shows S env c s page e =
     value-shows S c s _ (s .stack) _ _ (λ a rest.
     rw (e a)
-    (provided-shows S (ltb (length (s .lines)) room) outputFull _ _
+    (barred-shows S env (length (s .lines)) _ _ _
     (rw (
       see-one S increment (s .pc),
       view-append,
@@ -89,26 +96,26 @@ outputting-shows S room c s page e =
       see-both S first a (s .pc),
     ))))
 
-pub act-shows : (S room : ℕ) (c : Command) (s : State) → Gives (λ t. erase S t ≡ act c (erase S s)) (execute standard room c s)
+pub act-shows : (S : ℕ) (env : Environment) (c : Command) (s : State) → Gives (λ t. erase S t ≡ act c (erase S s)) (execute standard env c s)
 unfolding execute request standard act
-act-shows S room Add s = making-shows S Add s _+ℤ_ (λ a b. refl)
-act-shows S room Sub s = making-shows S Sub s _-ℤ_ (λ a b. refl)
-act-shows S room Pop s = value-shows S Pop s _ (s .stack) _ _ (λ a rest. rw (see-one S increment (s .pc)))
-act-shows S room Output s = outputting-shows S room Output s (pos 0) (λ a. refl)
-act-shows S room (Push n) s =
+act-shows S env Add s = making-shows S Add s _+ℤ_ (λ a b. refl)
+act-shows S env Sub s = making-shows S Sub s _-ℤ_ (λ a b. refl)
+act-shows S env Pop s = value-shows S Pop s _ (s .stack) _ _ (λ a rest. rw (see-one S increment (s .pc)))
+act-shows S env Output s = outputting-shows S env Output s (pos 0) (λ a. refl)
+act-shows S env (Push n) s =
     provided-shows S (ltb (length (s .stack)) stackLimit) stackFull _ _ (rw (see-one S increment (s .pc), see-bottom S n))
-act-shows S room Load s =
+act-shows S env Load s =
     value-shows S Load s _ (s .stack) _ _ (λ a rest. cell-shows S Load s (s .memory) (a .number) _ _ (λ i c e at.
     rw (see-one S increment (s .pc), see-both S second a c, see-cell S a e at)))
-act-shows S room Store s =
+act-shows S env Store s =
     values-shows S Store s _ (s .stack) _ _ (λ a b rest. cell-shows S Store s (s .memory) (a .number) _ _ (λ i c e at.
     let effect : ℕ → ℕ → Outcome = λ p r. storing s p rest i (atom (b .number) r) in
     allowed-shows S (flows (join (a .label) (s .pc .label)) (c .label)) _ _ effect _ (λ f.
     rw (see-one S increment (s .pc), see-stored S a b (s .pc) e at f))))
-act-shows S room Jump s = value-shows S Jump s _ (s .stack) _ _ (λ a rest. rw (see-both S first a (s .pc)))
-act-shows S room (Bnz n) s =
+act-shows S env Jump s = value-shows S Jump s _ (s .stack) _ _ (λ a rest. rw (see-both S first a (s .pc)))
+act-shows S env (Bnz n) s =
     value-shows S (Bnz n) s _ (s .stack) _ _ (λ a rest. rw (see-both S (λ m place. branch m place n) a (s .pc)))
-act-shows S room Call s =
+act-shows S env Call s =
     values-shows S Call s _ (s .stack) _ _ (λ a b rest. rw (see-one S increment (s .pc), see-both S first a (s .pc)))
-act-shows S room Ret s = frame-shows S Ret s _ (s .stack) _ _ (λ a rest. refl)
-act-shows S room (OutputTo page) s = outputting-shows S room (OutputTo page) s page (λ a. refl)
+act-shows S env Ret s = frame-shows S Ret s _ (s .stack) _ _ (λ a rest. refl)
+act-shows S env (OutputTo page) s = outputting-shows S env (OutputTo page) s page (λ a. refl)

@@ -43,28 +43,35 @@ module _ (k : tie.After-checked2) where
   bytes : Bytes (now (start .args .sheet))
   bytes i = omega (arith, k .before .before .before .before .before .shared-slice-known .given i)
 
-  checked : Checked.Accepted count ≡ checkAnswer (answer (now (start .args .sheet)) (lentMemory start) (start .args .fuel) noneOwn)
+  checked : Checked.Accepted count ≡ checkAnswer (answer (now (start .args .sheet)) (start .args .clearances) (lentMemory start) (start .args .fuel) noneOwn)
   checked =
       rw (k .before .before .before .none .ensures) at (sym (k .checked2 .given .1) ∙ k .before .before .check .ensures)
 
   abbrev commands : List Command
-  commands = taken (now (start .args .sheet)) (lentMemory start) (start .args .fuel) noneOwn count checked .0
+  commands = taken (now (start .args .sheet)) (start .args .clearances) (lentMemory start) (start .args .fuel) noneOwn count checked .0
 
-  accepts : answer (now (start .args .sheet)) (lentMemory start) (start .args .fuel) noneOwn ≡ accepted commands
-  accepts = taken (now (start .args .sheet)) (lentMemory start) (start .args .fuel) noneOwn count checked .1
+  accepts : answer (now (start .args .sheet)) (start .args .clearances) (lentMemory start) (start .args .fuel) noneOwn ≡ accepted commands
+  accepts = taken (now (start .args .sheet)) (start .args .clearances) (lentMemory start) (start .args .fuel) noneOwn count checked .1
 
   same-count : count ≡ length commands
-  same-count = taken (now (start .args .sheet)) (lentMemory start) (start .args .fuel) noneOwn count checked .2
+  same-count = taken (now (start .args .sheet)) (start .args .clearances) (lentMemory start) (start .args .fuel) noneOwn count checked .2
 
-  fine : Fine (now (start .args .sheet)) (lentMemory start) (start .args .fuel) noneOwn commands
-  fine = start-fine (now (start .args .sheet)) (lentMemory start) (start .args .fuel) noneOwn commands accepts
+  fine : Fine (now (start .args .sheet)) (start .args .clearances) (lentMemory start) (start .args .fuel) noneOwn commands
+  fine = start-fine (now (start .args .sheet)) (start .args .clearances) (lentMemory start) (start .args .fuel) noneOwn commands accepts
+
+-- the clearances are sixteen words
+slice-aggregate-go : tie.Need-slice-aggregate-go
+slice-aggregate-go c =
+    let at-write = c .before .before .before .before in
+    let s = start (at-write .before .before .before) in
+    search (needs, s .good .1 .1 .1 .0)
 
 go-requires : tie.Need-go-requires
 go-requires c κs =
-    let at-room = c .before .before .before .before .before .before .before .before in
+    let at-room = c .before .before .before .before .before .before .before .before .before .before in
     let at-write = at-room .before .before in
     let k = at-write .before .before .before in (
-      rw (same-count k) (few _ (lentMemory (start k)) _ noneOwn (bytes k) (commands k) (fine k)),
+      rw (same-count k) (few _ (start k .args .clearances) (lentMemory (start k)) _ noneOwn (bytes k) (commands k) (fine k)),
       rw (same-count k) (omega (arith, fine k .program, at-write .write .kept .1 .0)),
       fine k .stack,
       fine k .many,
@@ -76,28 +83,28 @@ unfolding plain
 returns c =
     let at-check = c .before .before .before in
     let s = at-check .before .before .before .before in
-    refused-is (now (s .args .sheet)) (lentMemory s) (s .args .fuel) noneOwn (fixed standard) tt (c .before .checked .given .0 .0)
+    refused-is (now (s .args .sheet)) (s .args .clearances) (lentMemory s) (s .args .fuel) noneOwn (fixed standard) tt (c .before .checked .given .0 .0)
     (rw (at-check .before .none .ensures) at (sym (c .before .checked .given .1) ∙ at-check .check .ensures))
 
 returns-2 : tie.Need-returns-2
 unfolding plain
 returns-2 c =
     let at-go = c .before .before .before .before .before .before .before in
-    let at-room = at-go .before .before .before .before .before .before .before .before .before in
+    let at-room = at-go .before .before .before .before .before .before .before .before .before .before .before in
     let at-write = at-room .before .before in
     let k = at-write .before .before .before in
     let s = start k in
     let m = lentMemory s in
-    let x = at-go .go .last .1 .1 .1 .1 in
+    let x = at-go .go .last .1 .1 .1 .1 .1 in
     let o = x .1 .1 .1 in
     let written =
     at-write .write .ensures ∙ written-accepted (now (s .args .sheet)) (commands k) (now (s .args .program)) (fine k .decoded)
     (fine k .program) in
-    loop-whole (now (s .args .sheet)) m (s .args .fuel) noneOwn (bytes k) (commands k) (fine k) standardRuler (fixed standard)
+    loop-whole (now (s .args .sheet)) (s .args .clearances) m (s .args .fuel) noneOwn (bytes k) (commands k) (fine k) standardRuler (fixed standard)
     standard-follows (λ u. standard-range) tt (count k) (same-count k) (at-write .write .last .1 .0) written
     (done (at-go .go .result) tt (lent (x .0) (cells (x .1 .0) (x .1 .1 .0))) (output (o .0) (o .1 .0) (o .1 .1 .0) (o .1 .1 .1 .0)))
     (rw (at-room .room .ensures) at (at-go .go .ensures))
-    ∙ sym (ap (λ d. engineOf (fixed standard) d tt m (s .args .fuel)) (accepts k))
+    ∙ sym (ap (λ d. engineOf (fixed standard) d tt (s .args .clearances) m (s .args .fuel)) (accepts k))
 
 pub execute-spec : {M : Type 1} → statement M
 execute-spec =
@@ -109,6 +116,7 @@ execute-spec =
     (λ c. search needs)
     (λ c κs. search needs)
     (λ c κs. search needs)
+    slice-aggregate-go
     go-requires
     (λ c. search needs)
     returns

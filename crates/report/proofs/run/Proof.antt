@@ -1,6 +1,6 @@
 -- `report::run` meets its contract: the tag engine's end gives the text.
 -- Assumes nothing.
-use mathlib.Core.Path.{_≡_, _∙_, sym, subst, ap₂}
+use mathlib.Core.Path.{_≡_, _∙_, sym, subst, ap, ap₂}
 use mathlib.Core.List.{List}
 use Prim.Native.Nat.{ℕ}
 use native.Mathlib.Omega.{arith}
@@ -9,11 +9,13 @@ use lib.IntN.{ℤ, pos}
 use lib.ListN.{length-replicate}
 use Rattle.word.specs.Field.{Bytes}
 use Rattle.step.specs.Lent.{cells, lent}
+use Rattle.engine.specs.declared.Clearances.{Clearances}
 use Rattle.engine.specs.declared.Answer.the-variants.{Refused, Stopped}
 use Rattle.engine.specs.Memory.{output, memory}
+use Rattle.policy.specs.Standard.{standardBytes}
 use Rattle.tagged.specs.Tagged.{Left, left, endedBy, tagged}
 use Rattle.report.specs.Lines.{PageWords}
-use Rattle.report.specs.Page.{lentFor, handlerSpace, endFor}
+use Rattle.report.specs.Page.{zeros, lentFor, handlerSpace, endFor}
 use Rattle.report.proofs.Pages.{end-pages}
 use Rattle.report.proofs.Paging.{run-written}
 use borrow.Author.Needs.{needs}
@@ -25,7 +27,7 @@ module _ (e : tie.After-execute) where
   abbrev start : tie.Start
   start =
       let at-empty = e .before .before .before .before .before .before .before .before in
-      at-empty .before .before .before .before .before .before .before
+      at-empty .before .before .before .before .before .before .before .before
 
   abbrev values : List ℤ
   values = now (start .args .values)
@@ -38,7 +40,8 @@ module _ (e : tie.After-execute) where
 
   octets : Bytes sheet
   octets i =
-      let at-bytes = e .before .before .before .before .before .before .before .before .before .before .before .before in
+      let at-empty = e .before .before .before .before .before .before .before .before in
+      let at-bytes = at-empty .before .before .before .before .before in
       omega (arith, at-bytes .before .before .shared-slice-known .given i)
 
   -- what it left
@@ -47,18 +50,20 @@ module _ (e : tie.After-execute) where
       let x = e .execute .last .1 in
       left
       (endedBy (e .execute .result)
-      (memory (x .1 .1 .1 .1 .0) (lent (x .1 .1 .1 .1 .1 .0) (cells (x .0) (x .1 .0)))
-      (let o = x .1 .1 .1 .1 .1 .1 .1 in output (o .0) (o .1 .0) (o .1 .1 .0) (o .1 .1 .1 .0))))
-      (x .1 .1 .1 .1 .1 .1 .0)
+      (memory (x .1 .1 .1 .1 .1 .0) (lent (x .1 .1 .1 .1 .1 .1 .0) (cells (x .0) (x .1 .0)))
+      (let o = x .1 .1 .1 .1 .1 .1 .1 .1 in output (o .0) (o .1 .0) (o .1 .1 .0) (o .1 .1 .1 .0))))
+      (x .1 .1 .1 .1 .1 .1 .1 .0)
 
   ends : last ≡ endFor (cells values labels) (start .args .allowance) sheet
   ends =
       let at-empty = e .before .before .before .before .before .before .before .before in
-      let at-bytes = at-empty .before .before .before .before in
+      let at-all = at-empty .before .before in
+      let at-bytes = at-all .before .before .before in
+      let run : List ℕ → List ℤ → Clearances → Left =
+      λ t row c. tagged sheet t row c (lentFor (cells values labels)) handlerSpace (start .args .allowance) in
       e .execute .ensures .0
-      ∙ ap₂ (λ (t : List ℕ) (row : List ℤ). tagged sheet t row (lentFor (cells values labels)) handlerSpace (start .args .allowance))
-      (at-bytes .bytes .ensures)
-      (at-empty .empty .ensures)
+      ∙ ap₂ (λ t row. run t row (at-all .all .result)) (at-bytes .bytes .ensures) (at-empty .empty .ensures)
+      ∙ ap (run standardBytes (zeros 7)) (at-all .all .ensures)
 
 -- and its answer is looked at
 module _ (k : tie.After-pages2) where
@@ -72,7 +77,7 @@ lines-requires : tie.Need-lines-requires
 lines-requires c κs =
     let at-machine = c .before .before .before .before .before in
     let e = ended (at-machine .before .before .before .before) in (
-      omega (arith, e .execute .kept .1 .1 .1 .1 .1 .1 .1 .1 .0, length-replicate 1024 (pos 0), start e .pre),
+      omega (arith, e .execute .kept .1 .1 .1 .1 .1 .1 .1 .1 .1 .0, length-replicate 1024 (pos 0), start e .pre),
       subst (λ (x : Left). PageWords (x .ended .memory .output .pages)) (sym (ends e))
           (end-pages (cells (values e) (labels e)) (start e .args .allowance) (sheet e) (octets e)),
     )
@@ -102,6 +107,7 @@ pub run-spec : {M : Type 1} → statement M
 run-spec =
     tie.close
     (tie.spec
+    (λ c κs. search needs)
     (λ c κs. search needs)
     (λ c. search needs)
     (λ c κs. search needs)

@@ -13,7 +13,8 @@ use Rattle.program.specs.Decode.{Decoded, accepted, checkAnswer}
 use Rattle.program.proofs.Loading.{written-accepted}
 use Rattle.stack.specs.Words.{started}
 use Rattle.step.specs.Lent.{cells, lent}
-use Rattle.engine.specs.Memory.{output, Memory, memory}
+use Rattle.engine.specs.declared.Clearances.{Clearances}
+use Rattle.engine.specs.Memory.{output, Memory, memory, environment}
 use Rattle.engine.specs.Start.{given, startOf}
 use Rattle.engine.specs.Loop.{done, loopOf}
 use Rattle.engine.proofs.Accepted.{taken, few}
@@ -49,6 +50,9 @@ module _ (k : tie.After-check) where
   abbrev row : List ℤ
   row = start .args .cache .words
 
+  abbrev clear : Clearances
+  clear = start .args .clearances
+
   abbrev space : List ℤ
   space = now (start .args .handler)
 
@@ -69,17 +73,17 @@ module _ (k : tie.After-check) where
   seven = sized start
 
   -- what the definition leaves is promised, so what is equal to it
-  promised : (x : Left) → x ≡ tagged sheet rules row runs space fuel
-      → (x ≡ tagged sheet rules row runs space fuel) × Promises sheet rules runs space fuel x
-  promised x e = (e, subst (Promises sheet rules runs space fuel) (sym e) (tagged-promises sheet rules row seven runs space fuel))
+  promised : (x : Left) → x ≡ tagged sheet rules row clear runs space fuel
+      → (x ≡ tagged sheet rules row clear runs space fuel) × Promises sheet rules clear runs space fuel x
+  promised x e = (e, subst (Promises sheet rules clear runs space fuel) (sym e) (tagged-promises sheet rules row seven clear runs space fuel))
 
   abbrev answered : Decoded
-  answered = startTagged sheet (readTable rules) row runs space fuel
+  answered = startTagged sheet (readTable rules) row clear runs space fuel
 
   checked : k .check .result ≡ checkAnswer answered
   checked =
       k .check .ensures
-      ∙ ap (λ own. checkAnswer (startOf sheet (runs .lent .cells .labels) (given runs fuel) own))
+      ∙ ap (λ own. checkAnswer (startOf sheet (runs .lent .cells .labels) clear (given runs fuel) own))
       (ap (λ (x : Found). x .own) (k .before .before .rules .ensures))
 
 -- and all were kept
@@ -92,11 +96,11 @@ module _ (a : tie.After-checked2) where
 
   -- the program
   program : (cs : List Command) × (answered kept ≡ accepted cs) × (count ≡ length cs)
-  program = taken (sheet kept) (runs kept) (fuel kept) _ count (sym (a .checked2 .given .1) ∙ checked kept)
+  program = taken (sheet kept) (clear kept) (runs kept) (fuel kept) _ count (sym (a .checked2 .given .1) ∙ checked kept)
 
   -- the table, and what is known of the start
-  table : (t : Table) × Ready (sheet kept) (rules kept) (row kept) (runs kept) (space kept) (fuel kept) (program .0) t
-  table = start-ready (sheet kept) (rules kept) (row kept) (runs kept) (space kept) (fuel kept) (program .0) (program .1)
+  table : (t : Table) × Ready (sheet kept) (rules kept) (row kept) (clear kept) (runs kept) (space kept) (fuel kept) (program .0) t
+  table = start-ready (sheet kept) (rules kept) (row kept) (clear kept) (runs kept) (space kept) (fuel kept) (program .0) (program .1)
 
   -- the handler's length
   abbrev size : ℕ
@@ -122,15 +126,19 @@ module _ (c : tie.After-row) where
   gone = c .before .before .before .before .before .before .before .before .before
 
   abbrev roomy : tie.After-room
-  roomy = gone .before .before .before .before .before .before .before .before .before .before
+  roomy = gone .before .before .before .before .before .before .before .before .before .before .before .before
+
+-- the clearances are sixteen words
+slice-aggregate-go : tie.Need-slice-aggregate-go
+slice-aggregate-go c = let s = start (kept (passed (c .before .before))) in search (needs, s .good .1 .1 .1 .0)
 
 go-requires : tie.Need-go-requires
 go-requires c κs =
-    let a = passed (c .before .before .before .before .before .before .before .before .before) in
+    let a = passed (c .before .before .before .before .before .before .before .before .before .before .before) in
     let k = kept a in
     let t = table a in
     let n = program a .2 in
-    let few-commands : length (program a .0) ≤ 4096 = few (sheet k) (runs k) (fuel k) _ (octets k) (program a .0) (t .1 .fine) in
+    let few-commands : length (program a .0) ≤ 4096 = few (sheet k) (clear k) (runs k) (fuel k) _ (octets k) (program a .0) (t .1 .fine) in
     let few-words : length (translate (t .0)) ≤ 8192 = handler-few (rules k) (t .0) (t .1 .rules) in
     (rw n few-commands, rw (size-is a) few-words, t .1 .fine .allowance)
 
@@ -138,7 +146,7 @@ returns : tie.Need-returns
 returns c =
     let k = c .before .before .before in
     promised k _
-    (execute-refused (sheet k) (rules k) (row k) (runs k) (space k) (fuel k) (c .before .checked .given .0 .0)
+    (execute-refused (sheet k) (rules k) (row k) (clear k) (runs k) (space k) (fuel k) (c .before .checked .given .0 .0)
     (sym (c .before .checked .given .1) ∙ checked k))
 
 returns-2 : tie.Need-returns-2
@@ -149,19 +157,19 @@ returns-2 c =
     let t = table a in
     let loaded = load (roomy c) .write .last .1 .0 in
     let handled = written (roomy c) .write2 .last .1 .0 in
-    let x = g .go .last .1 .1 .1 .1 .1 .1 .1 in
+    let x = g .go .last .1 .1 .1 .1 .1 .1 .1 .1 in
     let y = x .1 .1 .1 in
     let r = g .go .result in
     let ω = tagWords (handleSpace handled (size a)) in
     promised k _
-    (execute-accepted (sheet k) (rules k) (row k) (runs k) (space k) (fuel k) (octets k) (program a .0) (program a .1) (t .0) (t .1)
+    (execute-accepted (sheet k) (rules k) (row k) (clear k) (runs k) (space k) (fuel k) (octets k) (program a .0) (program a .1) (t .0) (t .1)
     (count a) (program a .2) loaded handled (size a)
     (load (roomy c) .write .ensures ∙ written-accepted (sheet k) (program a .0) _ (t .1 .fine .decoded) (t .1 .fine .program))
     (written (roomy c) .write2 .ensures .0 ∙ written-table (rules k) (t .0) _ (t .1 .rules) (t .1 .fits)) (size-is a)
     (done (r .ran) (tag (r .cache .words) (r .faults) (r .kernel)) (lent (x .0) (cells (x .1 .0) (x .1 .1 .0)))
     (output (y .0) (y .1 .0) (y .1 .1 .0) (y .1 .1 .1 .0)))
     (g .go .ensures
-    ∙ ap (λ n. loopOf ω (count a) n loaded (fuel k) 0 started (tagOf (row k)) (runs k .lent) (runs k .output)) (roomy c .room .ensures)))
+    ∙ ap (λ n. loopOf ω (count a) (environment n (clear k .words)) loaded (fuel k) 0 started (tagOf (row k)) (runs k .lent) (runs k .output)) (roomy c .room .ensures)))
 
 pub execute-spec : {M : Type 1} → statement M
 execute-spec =
@@ -174,6 +182,7 @@ execute-spec =
     (λ c κs. search needs)
     (λ c κs. search needs)
     (λ c κs. search needs)
+    slice-aggregate-go
     go-requires
     (λ c. search needs)
     returns
@@ -181,7 +190,7 @@ execute-spec =
     (λ c. search needs)
     (λ c. load (roomy c) .write .kept .1 .0)
     (λ c. search needs)
-    (λ c. search needs)
+    (λ c. written (roomy c) .write2 .kept .1 .0)
     (λ c. search needs)
     (λ c. search needs)
     (λ c. search needs)

@@ -14,7 +14,7 @@ returns : tie.Need-returns
 unfolding startOf
 returns c =
     let a = c .before .before .before .before .before .args in
-    start-refused (decode (now (a .sheet))) (now (a .labels)) (a .given) (a .own) _
+    start-refused (decode (now (a .sheet))) (now (a .labels)) (a .clearances) (a .given) (a .own) _
     (sym (c .before .sheet-answer .given .1) ∙ c .before .before .before .check .ensures)
 
 returns-2 : tie.Need-returns-2
@@ -23,7 +23,7 @@ returns-2 c =
     let at-limit = c .before .before .before in
     let at-sheet = at-limit .before .before in
     let a = at-sheet .before .before .before .before .args in
-    start-limited (decode (now (a .sheet))) (now (a .labels)) (a .given) (a .own) _
+    start-limited (decode (now (a .sheet))) (now (a .labels)) (a .clearances) (a .given) (a .own) _
     (sym (at-sheet .sheet-answer2 .given .1) ∙ at-sheet .before .before .check .ensures) (Broken (c .before .limit .given .0 .0))
     (sym (c .before .limit .given .1) ∙ at-limit .first-broken .ensures)
 
@@ -33,7 +33,7 @@ returns-3 c =
     let at-limit = c .before .before in
     let at-sheet = at-limit .before .before in
     let a = at-sheet .before .before .before .before .args in
-    start-limited (decode (now (a .sheet))) (now (a .labels)) (a .given) (a .own) _
+    start-limited (decode (now (a .sheet))) (now (a .labels)) (a .clearances) (a .given) (a .own) _
     (sym (at-sheet .sheet-answer2 .given .1) ∙ at-sheet .before .before .check .ensures) Kept
     (sym (c .enum-told .given .1) ∙ at-limit .first-broken .ensures)
 

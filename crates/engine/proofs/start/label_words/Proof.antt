@@ -13,13 +13,13 @@ use Rattle.engine.proofs.start.label_words.Statement.{statement}
 use Rattle.engine.proofs.start.label_words.Tie as tie
 
 abbrev Inv-loop : tie.InvT-loop
-Inv-loop labels i₀ i = Labelled labels i
+Inv-loop labels check i₀ i = Labelled check labels i
 
 abbrev μ-loop : tie.MeasureT-loop
-μ-loop labels i₀ i = length labels - i
+μ-loop labels check i₀ i = length labels - i
 
 loop-holds : tie.Need-loop-holds Inv-loop μ-loop
-loop-holds c = labelled-start (now (c .args .labels))
+loop-holds c = labelled-start (c .args .check) (now (c .args .labels))
 
 mul-of-word : tie.Need-mul-of-word Inv-loop μ-loop
 mul-of-word c = record { fits = omega (arith, c .loop-test .taken, c .before .before .good .0 .1) }
@@ -45,7 +45,7 @@ loop-again : tie.Need-loop-again Inv-loop μ-loop
 loop-again c =
     let l = c .before .before .before .before .before in
     let labels = now (l .before .args .labels) in
-    labelled-next labels (l .loop .i) (l .loop .inv) (c .before .before .before .before .loop-test .taken) (c .enum-told .given .0 .0)
+    labelled-next (l .before .args .check) labels (l .loop .i) (l .loop .inv) (c .before .before .before .before .loop-test .taken) (c .enum-told .given .0 .0)
     (sym (rw (back-ok (getD labels (l .loop .i) (pos 0)) (omega (arith, c .before .before .before .of-word-arg .given)))
     at (c .before .before .of-word .ensures))
     ∙ c .enum-told .given .1)
@@ -54,13 +54,13 @@ returns : tie.Need-returns Inv-loop μ-loop
 returns c =
     let l = c .before .before .before .before .before in
     let labels = now (l .before .args .labels) in
-    labelled-broken labels (l .loop .i) (l .loop .inv) (c .before .before .before .before .loop-test .taken)
+    labelled-broken (l .before .args .check) labels (l .loop .i) (l .loop .inv) (c .before .before .before .before .loop-test .taken)
     (sym (rw (back-ok (getD labels (l .loop .i) (pos 0)) (omega (arith, c .before .before .before .of-word-arg .given)))
     at (c .before .before .of-word .ensures))
     ∙ c .enum-told2 .given .1)
 
 returns-2 : tie.Need-returns-2 Inv-loop μ-loop
-returns-2 c = labelled-end (now (c .before .before .args .labels)) (c .before .loop .i) (c .before .loop .inv) (c .loop-test .left)
+returns-2 c = labelled-end (c .before .before .args .check) (now (c .before .before .args .labels)) (c .before .loop .i) (c .before .loop .inv) (c .loop-test .left)
 
 pub label-words-spec : {M : Type 1} → statement M
 label-words-spec =

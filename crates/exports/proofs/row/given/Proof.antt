@@ -58,7 +58,8 @@ returns-2 : tie.Need-returns-2 Inv-loop μ-loop
 returns-2 c =
     let l = c .before in
     let size = l .before .before .if1 .left in
-    copied _ _ size (ap length (l .before .empty2 .ensures)) _ _ (l .loop .inv) (c .loop-test .left) ∙ sym (given-seven _ size)
+    copied _ _ (ap length (l .before .empty2 .ensures) ∙ sym size) _ _ (l .loop .inv) (omega (arith, size, c .loop-test .left))
+    ∙ sym (given-seven _ size)
 
 pub given-spec : {M : Type 1} → statement M
 given-spec =

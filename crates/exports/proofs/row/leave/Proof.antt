@@ -50,7 +50,8 @@ returns : tie.Need-returns Inv-loop μ-loop
 returns c =
     let l = c .before in
     let size = l .before .if1 .taken in
-    copied _ _ (seven (l .before .before)) size _ _ (l .loop .inv) (c .loop-test .left) ∙ sym (left-seven _ _ size)
+    let words = seven (l .before .before) in
+    copied _ _ (size ∙ sym words) _ _ (l .loop .inv) (omega (arith, words, c .loop-test .left)) ∙ sym (left-seven _ _ size)
 
 returns-2 : tie.Need-returns-2 Inv-loop μ-loop
 returns-2 c = sym (left-other _ _ (ne-eqb _ _ (c .if1 .left)))

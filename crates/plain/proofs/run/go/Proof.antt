@@ -17,7 +17,7 @@ use Rattle.word.specs.Number.{indexOf}
 use Rattle.word.proofs.Bits.{index-found}
 use Rattle.word.proofs.Signed.{back-ok}
 use Rattle.step.specs.Lent.{cells, Lent, lent, After, after}
-use Rattle.engine.specs.Memory.{Output, output}
+use Rattle.engine.specs.Memory.{Output, output, environment}
 use Rattle.engine.specs.Act.{acted, actOf}
 use Rattle.engine.proofs.Going.{SameLengths, same-start, same-on, same-lines, Going}
 use Rattle.engine.proofs.Going.{going-start, going-end, going-outside, going-stopped, going-on}
@@ -28,15 +28,17 @@ use Rattle.plain.proofs.run.go.Statement.{statement}
 use Rattle.plain.proofs.run.go.Tie as tie
 
 abbrev Inv-loop : tie.InvT-loop
-Inv-loop count room fuel program stack₀ values₀ labels₀ numbers₀ lines₀ kinds₀ pages₀ m₀ left₀ stack values labels numbers lines kinds pages m left =
+Inv-loop count room clearances fuel program stack₀ values₀ labels₀ numbers₀ lines₀ kinds₀ pages₀ m₀ left₀
+    stack values labels numbers lines kinds pages m left =
     let l₀ = lent stack₀ (cells values₀ labels₀) in
     let o₀ = output numbers₀ lines₀ kinds₀ pages₀ in
     let l = lent stack (cells values labels) in
     let o = output numbers lines kinds pages in
-    (left ≤ fuel) × Going standardRuler count room fuel program tt l₀ o₀ m tt l o (fuel - left) × SameLengths l o l₀ o₀
+    (left ≤ fuel) × Going standardRuler count (environment room clearances) fuel program tt l₀ o₀ m tt l o (fuel - left) × SameLengths l o l₀ o₀
 
 abbrev μ-loop : tie.MeasureT-loop
-μ-loop count room fuel program stack₀ values₀ labels₀ numbers₀ lines₀ kinds₀ pages₀ m₀ left₀ stack values labels numbers lines kinds pages m left = left
+μ-loop count room clearances fuel program stack₀ values₀ labels₀ numbers₀ lines₀ kinds₀ pages₀ m₀ left₀
+    stack values labels numbers lines kinds pages m left = left
 
 -- the lent runs as they came
 abbrev given : tie.Start Inv-loop μ-loop → Lent
@@ -90,7 +92,7 @@ module _ (a : tie.After-machine Inv-loop μ-loop) where
   abbrev choice : Ready
   choice = ready (chose .next .result) (chose .next .last .1 .1 .1 .1 .1 .0)
 
-  chosen : Chose (start found .args .count) (start found .args .room) (start found .args .fuel) (now (start found .args .program))
+  chosen : Chose (start found .args .count) (environment (start found .args .room) (now (start found .args .clearances))) (start found .args .fuel) (now (start found .args .program))
       (given (start found)) (space (start found)) (runs (head found)) (lines (head found)) (head found .loop .left) choice
   chosen =
       rw (chose .next .ensures)
@@ -105,7 +107,7 @@ module _ (a : tie.After-machine Inv-loop μ-loop) where
   last = let x = did .act .last .1 .1 .1 in lent (x .0) (cells (x .1 .0) (x .1 .1 .0))
 
   abbrev written : Output
-  written = let x = wrote .emit .last .1 .1 .1 in output (x .0) (x .1 .0) (x .1 .1 .0) (x .1 .1 .1 .0)
+  written = let x = wrote .emit .last .1 .1 .1 .1 in output (x .0) (x .1 .0) (x .1 .1 .0) (x .1 .1 .1 .0)
 
   -- what it comes to, by its words
   abbrev comes : ℤ → ℤ → After
@@ -125,7 +127,7 @@ module _ (a : tie.After-machine Inv-loop μ-loop) where
   same : SameLengths last written (given (start found)) (space (start found))
   same =
       let x = did .act .kept .1 .1 .1 in
-      let y = wrote .emit .kept .1 .1 .1 in
+      let y = wrote .emit .kept .1 .1 .1 .1 in
       same-on
       (record {
         stack = x .0 ∙ chose .next .kept .1 .1 .1 .1 .1 .0;
@@ -150,10 +152,10 @@ module _ (a : tie.After-machine2 Inv-loop μ-loop) where
   left-at = told .before .before .before .before
 
   same-outside : SameLengths (runs left-at)
-      (let x = outside .end-or .last .1 .1 .1 .1 in output (x .0) (x .1 .0) (x .1 .1 .0) (x .1 .1 .1 .0))
+      (let x = outside .end-or .last .1 .1 .1 .1 .1 in output (x .0) (x .1 .0) (x .1 .1 .0) (x .1 .1 .1 .0))
       (given (left-at .before .before .before)) (space (left-at .before .before .before))
   same-outside =
-      let x = outside .end-or .kept .1 .1 .1 .1 in
+      let x = outside .end-or .kept .1 .1 .1 .1 .1 in
       same-lines (x .0) (x .1 .0) (x .1 .1 .0) (x .1 .1 .1 .0) (left-at .loop .inv .2)
 
 -- and where no allowance is left
@@ -167,10 +169,10 @@ module _ (a : tie.After-machine3 Inv-loop μ-loop) where
       argued .before .before
 
   same-spent : SameLengths (runs spent-at)
-      (let x = spent .end-or2 .last .1 .1 .1 .1 in output (x .0) (x .1 .0) (x .1 .1 .0) (x .1 .1 .1 .0))
+      (let x = spent .end-or2 .last .1 .1 .1 .1 .1 in output (x .0) (x .1 .0) (x .1 .1 .0) (x .1 .1 .1 .0))
       (given (spent-at .before .before .before)) (space (spent-at .before .before .before))
   same-spent =
-      let x = spent .end-or2 .kept .1 .1 .1 .1 in
+      let x = spent .end-or2 .kept .1 .1 .1 .1 .1 in
       same-lines (x .0) (x .1 .0) (x .1 .1 .0) (x .1 .1 .1 .0) (spent-at .loop .inv .2)
 
 -- the three tests hold

@@ -12,7 +12,7 @@ use Rattle.word.specs.Number.{indexOf}
 use Rattle.word.proofs.Signed.{back-ok}
 use Rattle.word.proofs.Bits.{index-found}
 use Rattle.step.specs.Lent.{cells, Lent, lent, after}
-use Rattle.engine.specs.Memory.{Output, output}
+use Rattle.engine.specs.Memory.{Output, output, environment}
 use Rattle.engine.specs.Act.{Acted, acted, actOf}
 use Rattle.engine.specs.Loop.{Done, done, wordAt, operandAt}
 use Rattle.engine.proofs.Going.{SameLengths, same-start, same-on, same-lines, Going, Acting}
@@ -29,18 +29,18 @@ use Rattle.tagged.proofs.run.go.Statement.{statement}
 use Rattle.tagged.proofs.run.go.Tie as tie
 
 abbrev Inv-loop : tie.InvT-loop
-Inv-loop count room fuel program space size stack₀ values₀ labels₀ numbers₀ line-labels₀ kinds₀ pages₀
+Inv-loop count room clearances fuel program space size stack₀ values₀ labels₀ numbers₀ line-labels₀ kinds₀ pages₀
     m₀ cache₀ steps₀ faults₀ kernel₀ stack values labels numbers line-labels kinds pages m cache steps faults kernel =
     let l₀ = lent stack₀ (cells values₀ labels₀) in
     let o₀ = output numbers₀ line-labels₀ kinds₀ pages₀ in
     let l = lent stack (cells values labels) in
     let o = output numbers line-labels kinds pages in
     let u = tag (cache .words) faults kernel in
-    Going (tagWords (handleSpace space size)) count room fuel program (tag (cache₀ .words) 0 0) l₀ o₀ m u l o steps
+    Going (tagWords (handleSpace space size)) count (environment room clearances) fuel program (tag (cache₀ .words) 0 0) l₀ o₀ m u l o steps
     × SameLengths l o l₀ o₀ × Few size steps u
 
 abbrev μ-loop : tie.MeasureT-loop
-μ-loop count room fuel program space size stack₀ values₀ labels₀ numbers₀ line-labels₀ kinds₀ pages₀
+μ-loop count room clearances fuel program space size stack₀ values₀ labels₀ numbers₀ line-labels₀ kinds₀ pages₀
     m₀ cache₀ steps₀ faults₀ kernel₀ stack values labels numbers line-labels kinds pages m cache steps faults kernel =
     fuel - steps
 
@@ -114,7 +114,7 @@ module _ (e : tie.After-emit Inv-loop μ-loop) where
   last = let x = done-act .act .last .1 .1 .1 .1 .1 .1 in lent (x .0) (cells (x .1 .0) (x .1 .1 .0))
 
   abbrev lines : Output
-  lines = let x = e .emit .last .1 .1 .1 in output (x .0) (x .1 .0) (x .1 .1 .0) (x .1 .1 .1 .0)
+  lines = let x = e .emit .last .1 .1 .1 .1 in output (x .0) (x .1 .0) (x .1 .1 .0) (x .1 .1 .1 .0)
 
   -- the counts before it, and what it adds
   abbrev before : Tag
@@ -144,7 +144,8 @@ module _ (e : tie.After-emit Inv-loop μ-loop) where
   does : acts ≡ comes found before (wordAt words (i found)) (operandAt words (i found))
   does = act-added (handles found) _ _ _ _ before adds adds-is
 
-  acting : Acting (tagWords (handles found)) (start found .args .count) (start found .args .room) (start found .args .fuel) words
+  acting : Acting (tagWords (handles found)) (start found .args .count)
+      (environment (start found .args .room) (now (start found .args .clearances))) (start found .args .fuel) words
       (tag (start found .args .memory .words) 0 0) (given (start found)) (empty (start found))
       (wordAt words (i found)) (operandAt words (i found)) (head found .loop .m) before (runs (head found)) (written (head found))
       (head found .loop .steps)
@@ -153,7 +154,7 @@ module _ (e : tie.After-emit Inv-loop μ-loop) where
   same : SameLengths last lines (given (start found)) (empty (start found))
   same =
       let x = done-act .act .kept .1 .1 .1 .1 .1 .1 in
-      let y = e .emit .kept .1 .1 .1 in
+      let y = e .emit .kept .1 .1 .1 .1 in
       same-on
       (record {
         stack = x .0;
@@ -175,11 +176,11 @@ module _ (e : tie.After-end-or Inv-loop μ-loop) where
   head-outside = told .before .before .before .before
 
   abbrev lines-outside : Output
-  lines-outside = let x = e .end-or .last .1 .1 .1 .1 in output (x .0) (x .1 .0) (x .1 .1 .0) (x .1 .1 .1 .0)
+  lines-outside = let x = e .end-or .last .1 .1 .1 .1 .1 in output (x .0) (x .1 .0) (x .1 .1 .0) (x .1 .1 .1 .0)
 
   same-outside : SameLengths (runs head-outside) lines-outside (given (head-outside .before .before)) (empty (head-outside .before .before))
   same-outside =
-      let y = e .end-or .kept .1 .1 .1 .1 in
+      let y = e .end-or .kept .1 .1 .1 .1 .1 in
       same-lines (y .0) (y .1 .0) (y .1 .1 .0) (y .1 .1 .1 .0) (head-outside .loop .inv .1)
 
 -- the allowance is spent, and the end line likewise
@@ -188,11 +189,11 @@ module _ (e : tie.After-end-or2 Inv-loop μ-loop) where
   head-spent = e .before .before .before .before .before .before
 
   abbrev lines-spent : Output
-  lines-spent = let x = e .end-or2 .last .1 .1 .1 .1 in output (x .0) (x .1 .0) (x .1 .1 .0) (x .1 .1 .1 .0)
+  lines-spent = let x = e .end-or2 .last .1 .1 .1 .1 .1 in output (x .0) (x .1 .0) (x .1 .1 .0) (x .1 .1 .1 .0)
 
   same-spent : SameLengths (runs head-spent) lines-spent (given (head-spent .before .before)) (empty (head-spent .before .before))
   same-spent =
-      let y = e .end-or2 .kept .1 .1 .1 .1 in
+      let y = e .end-or2 .kept .1 .1 .1 .1 .1 in
       same-lines (y .0) (y .1 .0) (y .1 .1 .0) (y .1 .1 .1 .0) (head-spent .loop .inv .1)
 
 -- what is handed back
