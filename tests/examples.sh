@@ -36,5 +36,5 @@ status=0
 bash examples/job.sh "$scratch/berth.txt" 0 "${cells[@]}" > "$scratch/job" 2> "$scratch/said" || status=$?
 [ "$status" -eq 1 ]
 [ ! -s "$scratch/job" ]
-[[ $(< "$scratch/said") == *"$scratch/berth.txt, line 8: refused 10,"* ]]
+[[ $(< "$scratch/said") == *"$scratch/berth.txt, line 5: refused 10,"* ]]
 echo "examples: 3 of 3 job files, 4 of 4 pages"

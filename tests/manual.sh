@@ -6,8 +6,9 @@
 #   the number of the first command and a colon before them. The codes and widths that the words are spelled with come from the manual's
 #   own table of commands.
 # - That table is the definition's in crates/program, its names those of include/luvrodan.h. Lines of text are read as their table says.
-# - The bytes of its standard rules are those of crates/policy; its limits, its functions and the numbers of its stops and refusals those of
-#   include/luvrodan.h, the limits of sheets and texts those of crates/assembly too.
+# - The bytes of its standard rules are those of crates/policy, the length of their handler that of crates/report; its limits, its functions
+#   and the numbers of its stops, refusals and kinds those of include/luvrodan.h, the limits of sheets and texts those of crates/assembly
+#   too.
 set -u
 cd "$(dirname "$0")/.." || exit 2
 . tests/page/bytes.sh
@@ -21,20 +22,19 @@ trap 'rm -rf "$scratch"' EXIT
 failed=0
 wrong() { echo "$manual: $*"; failed=$((failed + 1)); }
 
-# the table of commands: code and operand's width by name
-declare -A code width
+# the table of commands: code and operands' widths by name
+declare -A code widths
 told=
 names=
 while IFS='|' read -r _ c n w _; do
     n=${n// /}
     code[$n]=${c//[\` ]/}
-    w=${w//[^0-9]/}
-    width[$n]=${w:-0}
-    told+="${code[$n]} $n ${width[$n]}"$'\n'
+    widths[$n]=$(xargs <<< "${w//[^0-9 ]/}")
+    told+="$(xargs <<< "${code[$n]} $n ${widths[$n]}")"$'\n'
     names+=", $n"
-done < <(grep -E '^\| `[01][0-9a-f]` \| [A-Z][A-Za-z]+ \| ([0-9] bytes? )?\|' "$manual")
-defined=$(sed -nE 's/^description [A-Za-z]+ = row 0x([0-9a-f]+) "([A-Za-z]+)" (bare|Page|\(Signed [0-9]+\)) .*/\1 \2 \3/p' \
-    crates/program/specs/Command.antt | sed -E 's/ bare$/ 0/; s/ Page$/ 1/; s/ \(Signed ([0-9]+)\)$/ \1/')
+done < <(grep -E '^\| `[01][0-9a-f]` \| [A-Z][A-Za-z]+ \| ([0-9] bytes?(, [0-9] bytes?)* )?\|' "$manual")
+defined=$(sed -nE 's/^description [A-Za-z]+ = row 0x([0-9a-f]+) "([A-Za-z]+)" (bare|Page|Counts|\(Signed [0-9]+\)) .*/\1 \2 \3/p' \
+    crates/program/specs/Command.antt | sed -E 's/ bare$//; s/ Page$/ 1/; s/ Counts$/ 1 1/; s/ \(Signed ([0-9]+)\)$/ \1/')
 [ -n "$defined" ] && [ "${told%$'\n'}" = "$defined" ] || wrong "the table of commands is not that of crates/program/specs/Command.antt"
 grep -qF "(${names#, })" "$header" || wrong "the names of the commands are not those of $header"
 
@@ -47,12 +47,21 @@ little() {
 
 # spell WORDS: the bytes of an item of a job or of a command
 spell() {
-    case $1 in
+    local name=$1 width
+    case $name in
     cell) printf ' 40'; little "$2" 8; little "$4" 4 ;;
     allowance) printf ' 41'; little "$2" 4 ;;
     reader) printf ' 42'; little "$2" 4 ;;
     sheet) printf ' 43' ;;
-    *) printf ' %s' "${code[$1]-?}"; [ $# -eq 1 ] || little "$2" "${width[$1]-0}" ;;
+    *)
+        printf ' %s' "${code[$name]-?}"
+        for width in ${widths[$name]-}; do
+            [ $# -gt 1 ] || break
+            shift
+            little "$1" "$width"
+        done
+        [ $# -eq 1 ] || printf ' ?'
+        ;;
     esac
 }
 
@@ -165,6 +174,10 @@ done < <(sed -n '/^| line | is read as |/,/^$/{//d; /^|---/d; p;}' "$manual")
 rules=$(sed -nE 's/^\| [A-Z][A-Za-z, ]+ \|.*\| `(1[0-9 ]*)` \|$/\1/p' "$manual" | xargs)
 table=$(sed -nE 's/^ *0x([0-9a-f]+),$/\1/p' crates/policy/src/standard_table.rt | xargs)
 [ -n "$table" ] && [ "$rules" = "$table" ] || wrong "the bytes of the standard rules are not the standard table: $rules"
+length=$(wc -w <<< "$table")
+grep -qF "The standard table has $length bytes" "$manual" || wrong "the standard table has $length bytes"
+kernel=$(sed -nE 's/^handlerSpace = zeros \(2 \* ([0-9]+)\)$/\1/p' crates/report/specs/Page.antt)
+grep -qF "standard table's handler has ${kernel:-?} commands" "$manual" || wrong "the standard table's handler has $kernel commands"
 
 # same WHAT IN-THE-MANUAL IN-THE-HEADER: the same words, whatever their order, and how often they stand there
 same() {
@@ -176,6 +189,14 @@ same() {
 same stops '/^## [0-9]+\. Stops$/,/^## /s/^\| ([0-9]+) \|.*/\1/p' 's/^ *LUVRODAN_STOP_[A-Z_]+ = ([0-9]+).*/\1/p'
 same refusals '/^## [0-9]+\. Refusals$/,/^## /s/^\| ([0-9]+) \|.*/\1/p' 's/^ *LUVRODAN_REFUSED_[A-Z_]+ = ([0-9]+).*/\1/p'
 same functions 's/^\| `(luvrodan_[a-z_]+)` \|.*/\1/p' 's/^[a-z0-9_]+ (luvrodan_[a-z_]+)\(.*/\1/p'
+
+# the kinds of entries and of lines
+kinds=0
+while read -r value name; do
+    kinds=$((kinds + 1))
+    grep -Eq "^ *$name = $value(,| |\$)" "$header" || wrong "$name is not $value in $header"
+done < <(grep -oE '[0-9]+ \(`LUVRODAN_[A-Z_]+`' "$manual" | tr -d '(`')
+[ "$kinds" -gt 0 ] || wrong "no kinds"
 
 # the limits, and what else is said of texts
 sed -nE 's/^\|.*\| ([0-9,]+) \| `(LUVRODAN_[A-Z_]+)` \|$/\2 \1/p; s/^\|.*`(LUVRODAN_[A-Z_]+)` \(([0-9,]+)\).*/\1 \2/p' "$manual" |

@@ -20,6 +20,9 @@ enum Op {
     Bnz(i64),
     Call,
     Ret,
+    /// With so many arguments, and a frame of this kind.
+    CallN(u8, Kind),
+    RetV,
     /// A Push and the command after it. The cell is known to be there, the branch to be taken or not.
     PushAdd(i64),
     PushSub(i64),
@@ -29,11 +32,19 @@ enum Op {
     PushBnz(i64, i32),
 }
 
+#[derive(Clone, Copy, PartialEq)]
+enum Kind {
+    Value,
+    Frame,
+    /// A frame with a result due.
+    FrameDue,
+}
+
 #[derive(Clone, Copy)]
 struct Entry {
     number: i64,
     label: u32,
-    frame: bool,
+    kind: Kind,
 }
 
 #[derive(Clone, Copy)]
@@ -54,6 +65,8 @@ fn single(code: i64, operand: i64, clearances: &Clearances) -> Op {
         9 => Op::Bnz(operand),
         10 => Op::Call,
         11 => Op::Ret,
+        13 => Op::CallN(operand as u8 / 16, if operand % 16 == 0 { Kind::Frame } else { Kind::FrameDue }),
+        14 => Op::RetV,
         // Output, whose operand word is 0, and OutputTo
         _ => Op::Output(operand as u8, clearances[operand as usize] as u32),
     }
@@ -99,6 +112,22 @@ pub fn plain(sheet: &[u8], lent: &mut Lent, clearances: &[i64], fuel: u64) -> Re
     Ok(run(&ops, lent, clearances[0] as u32, fuel))
 }
 
+/// Drops a call's target and puts a frame under its arguments: the target, if it and they are values. Not inlined: within
+/// the loop it takes a third of the speed of the cell walk and of hidden branches.
+#[inline(never)]
+fn enter(stack: &mut [Entry], arguments: u8, frame: Entry) -> Option<Entry> {
+    let place = stack.len().checked_sub(1 + usize::from(arguments))?;
+    let entries = &mut stack[place..];
+    if entries.iter().any(|entry| entry.kind != Kind::Value) {
+        return None;
+    }
+    let mut last = frame;
+    for entry in entries {
+        std::mem::swap(entry, &mut last);
+    }
+    Some(last)
+}
+
 /// The end line needs page 0's clearance.
 #[inline(never)]
 fn run(ops: &[Op], lent: &mut Lent, end_clearance: u32, fuel: u64) -> Report {
@@ -106,7 +135,7 @@ fn run(ops: &[Op], lent: &mut Lent, end_clearance: u32, fuel: u64) -> Report {
         .map(|(&number, &label)| Cell { number, label: label as u32 })
         .collect();
     let cells = &mut cells[..];
-    let mut stack = [Entry { number: 0, label: 0, frame: false }; STACK];
+    let mut stack = [Entry { number: 0, label: 0, kind: Kind::Value }; STACK];
     let room = lent.room();
     let (numbers, line_labels, kinds, pages) = (
         &mut lent.numbers[..room],
@@ -127,7 +156,7 @@ fn run(ops: &[Op], lent: &mut Lent, end_clearance: u32, fuel: u64) -> Report {
     }
     macro_rules! value {
         ($below:expr) => {
-            depth > $below && !entry!($below).frame
+            depth > $below && entry!($below).kind == Kind::Value
         };
     }
     // Writes an entry above the top: depth was tested to be below 256.
@@ -135,7 +164,7 @@ fn run(ops: &[Op], lent: &mut Lent, end_clearance: u32, fuel: u64) -> Report {
         ($number:expr, $label:expr) => {
             // SAFETY: depth is below 256.
             *unsafe { stack.get_unchecked_mut(depth) } =
-                Entry { number: $number, label: $label, frame: false };
+                Entry { number: $number, label: $label, kind: Kind::Value };
             high = high.max(depth + 1);
         };
     }
@@ -257,7 +286,7 @@ fn run(ops: &[Op], lent: &mut Lent, end_clearance: u32, fuel: u64) -> Report {
                     _ => top.number.checked_sub(under.number),
                 };
                 let Some(number) = number else { break Stop::Overflow };
-                entry!(1) = Entry { number, label: top.label | under.label, frame: false };
+                entry!(1) = Entry { number, label: top.label | under.label, kind: Kind::Value };
                 depth -= 1;
                 pc += 1;
             }
@@ -293,7 +322,7 @@ fn run(ops: &[Op], lent: &mut Lent, end_clearance: u32, fuel: u64) -> Report {
                 }
                 let top = entry!(0);
                 let Some(cell) = cells.get(top.number as usize) else { break Stop::AddressOutside };
-                entry!(0) = Entry { number: cell.number, label: top.label | cell.label, frame: false };
+                entry!(0) = Entry { number: cell.number, label: top.label | cell.label, kind: Kind::Value };
                 pc += 1;
             }
             Op::Store => {
@@ -331,24 +360,50 @@ fn run(ops: &[Op], lent: &mut Lent, end_clearance: u32, fuel: u64) -> Report {
                     break Stop::ValueMissing;
                 }
                 let (target, argument) = (entry!(0), entry!(1));
-                entry!(1) = Entry { number: pc + 1, label, frame: true };
+                entry!(1) = Entry { number: pc + 1, label, kind: Kind::Frame };
                 entry!(0) = argument;
                 pc = target.number;
                 label |= target.label;
             }
             Op::Ret => {
-                if depth == 0 || !entry!(0).frame {
-                    break Stop::FrameMissing;
+                if depth == 0 || entry!(0).kind != Kind::Frame {
+                    break if depth == 0 || value!(0) { Stop::FrameMissing } else { Stop::ResultsDiffer };
                 }
                 pc = entry!(0).number;
                 label = entry!(0).label;
+                depth -= 1;
+            }
+            Op::CallN(arguments, kind) => {
+                let frame = Entry { number: pc + 1, label, kind };
+                let Some(target) = enter(&mut stack[..depth], arguments, frame) else {
+                    break Stop::ValueMissing;
+                };
+                pc = target.number;
+                label |= target.label;
+            }
+            Op::RetV => {
+                if !value!(0) {
+                    break Stop::ValueMissing;
+                }
+                if depth == 1 || entry!(1).kind != Kind::FrameDue {
+                    break if depth == 1 || value!(1) { Stop::FrameMissing } else { Stop::ResultsDiffer };
+                }
+                let (top, frame) = (entry!(0), entry!(1));
+                entry!(1) = Entry { number: top.number, label: top.label | label, kind: Kind::Value };
+                pc = frame.number;
+                label = frame.label;
                 depth -= 1;
             }
         }
         left -= 1;
     };
     for (words, entry) in lent.stack.chunks_exact_mut(3).zip(&stack[..high]) {
-        words.copy_from_slice(&[if entry.frame { FRAME } else { VALUE }, entry.number, entry.label.into()]);
+        let kind = match entry.kind {
+            Kind::Value => VALUE,
+            Kind::Frame => FRAME,
+            Kind::FrameDue => FRAME + 1,
+        };
+        words.copy_from_slice(&[kind, entry.number, entry.label.into()]);
     }
     for (index, cell) in cells.iter().enumerate() {
         lent.values[index] = cell.number;

@@ -333,7 +333,7 @@ fn print_growth(handler: &[i64], contestants: &[Contestant]) {
     let berth = berth();
     let lent = berth.lent(handler);
     let time = |contestant: &Contestant| short_time(contestant, &berth.sheet, &lent, FUEL);
-    row("berth: 18 steps, 4 lines".into(), contestants.iter().map(time).collect());
+    row("berth: 26 steps, 4 lines".into(), contestants.iter().map(time).collect());
 }
 
 /// Reads or lists.

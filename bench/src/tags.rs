@@ -2,8 +2,8 @@
 //! run by a small kernel at each fault.
 
 use crate::safe::{
-    check_cells, check_clearances, check_fuel, check_sheet, check_spaces, flows, load_sheet, Clearances, END,
-    FRAME, NUMBER, VALUE,
+    check_cells, check_clearances, check_fuel, check_sheet, check_spaces, enter, flows, load_sheet,
+    no_return, Clearances, END, FRAME, NUMBER, VALUE,
 };
 use model::engine::{Lent, Report};
 use model::machine::{Stop, STACK};
@@ -91,14 +91,14 @@ fn handle(handler: &[i64], memory: &mut [i64; 7]) -> (bool, u64) {
 }
 
 /// What a command needs: a stop, or the labels of its inputs, −1 for missing ones.
-fn needs(code: i64, stack: &[i64], depth: usize, labels: &[i64]) -> Result<[i64; 3], Stop> {
+fn needs([code, operand]: [i64; 2], stack: &[i64], depth: usize, labels: &[i64]) -> Result<[i64; 3], Stop> {
     let kind = |below: usize| if depth > below { stack[3 * (depth - 1 - below)] } else { -1 };
     let entry_label = |below: usize| stack[3 * (depth - 1 - below) + 2];
     if code == 5 {
         return Ok([-1; 3]);
     }
     if code == 11 {
-        return if kind(0) == FRAME { Ok([entry_label(0), -1, -1]) } else { Err(Stop::FrameMissing) };
+        return if kind(0) == FRAME { Ok([entry_label(0), -1, -1]) } else { Err(no_return(stack, depth, 0)) };
     }
     let two = matches!(code, 1 | 2 | 7 | 10);
     if kind(0) != VALUE || two && kind(1) != VALUE {
@@ -115,6 +115,11 @@ fn needs(code: i64, stack: &[i64], depth: usize, labels: &[i64]) -> Result<[i64;
         1 | 2 => [entry_label(0), entry_label(1), -1],
         6 => [entry_label(0), cell(address)?, -1],
         7 => [entry_label(0), entry_label(1), cell(address)?],
+        13 if (1..=operand as usize / 16).any(|below| kind(below) != VALUE) => {
+            return Err(Stop::ValueMissing);
+        }
+        14 if kind(1) != FRAME + 1 => return Err(no_return(stack, depth, 1)),
+        14 => [entry_label(0), entry_label(1), -1],
         _ => [entry_label(0), -1, -1],
     })
 }
@@ -150,7 +155,7 @@ fn run(count: usize, lent: &mut Lent, clearances: &Clearances, fuel: u64) -> Rep
         }
         let code = program[2 * pc as usize];
         let operand = program[2 * pc as usize + 1];
-        let inputs = match needs(code, stack, depth, labels) {
+        let inputs = match needs([code, operand], stack, depth, labels) {
             Ok(inputs) => inputs,
             Err(stop) => break stop,
         };
@@ -230,6 +235,16 @@ fn run(count: usize, lent: &mut Lent, clearances: &Clearances, fuel: u64) -> Rep
                 let argument = [VALUE, stack[under + 1], stack[under + 2]];
                 stack[under..under + 3].copy_from_slice(&[FRAME, pc + 1, result]);
                 stack[top..top + 3].copy_from_slice(&argument);
+            }
+            13 => {
+                let frame = [FRAME + operand % 16, pc + 1, result];
+                [next, _] = enter(stack, depth, operand as usize / 16, frame);
+            }
+            14 => {
+                next = stack[under + 1];
+                let brought = [VALUE, stack[top + 1], result];
+                stack[under..under + 3].copy_from_slice(&brought);
+                depth -= 1;
             }
             _ => {
                 next = stack[top + 1];

@@ -1,7 +1,7 @@
 //! Sheets in text, read and listed in safe Rust: into a `Vec` first, so that a refusal writes nothing.
 
 use differential::text::{written, Texts, Written};
-use model::sheet::{decode, Command::*, COMMANDS, PAGES};
+use model::sheet::{decode, Command::*, ARGUMENTS, COMMANDS, PAGES, RESULTS};
 use model::text::lines;
 use model::Refusal;
 
@@ -34,7 +34,7 @@ impl Texts for Fast {
 }
 
 /// The names in the order of their codes, each with what follows it: the space before an operand, or the line's end.
-const NAMES: [&[u8]; 12] = [
+const NAMES: [&[u8]; 14] = [
     b"Add\n",
     b"Sub\n",
     b"Pop\n",
@@ -47,6 +47,8 @@ const NAMES: [&[u8]; 12] = [
     b"Call\n",
     b"Ret\n",
     b"OutputTo ",
+    b"CallN ",
+    b"RetV\n",
 ];
 
 /// Room for each byte of a text: the shortest line of a Push, which gives nine bytes, has six. And for each byte of a
@@ -91,19 +93,26 @@ fn read_words(line: &[u8], sheet: &mut Vec<u8>) -> Result<(), u64> {
         b"Call" => 10,
         b"Ret" => 11,
         b"OutputTo" => 12,
+        b"CallN" => 13,
+        b"RetV" => 14,
         _ => return Err(MALFORMED),
     };
     sheet.push(code);
-    let operand = words.next().map(|word| number(word).ok_or(MALFORMED)).transpose()?;
-    match (code, operand, words.next()) {
-        (5, Some(number), None) => {
+    let mut operand = || words.next().map(|word| number(word).ok_or(MALFORMED)).transpose();
+    let operands = (operand()?, operand()?);
+    match (code, operands, words.next()) {
+        (5, (Some(number), None), None) => {
             sheet.extend(i64::try_from(number).map_err(|_| OUTSIDE)?.to_le_bytes());
         }
-        (9, Some(number), None) => {
+        (9, (Some(number), None), None) => {
             sheet.extend(i16::try_from(number).map_err(|_| OUTSIDE)?.to_le_bytes());
         }
-        (12, Some(number), None) => sheet.push(page(number).ok_or(OUTSIDE)?),
-        (5 | 9 | 12, ..) | (_, Some(_), _) => return Err(MALFORMED),
+        (12, (Some(number), None), None) => sheet.push(up_to(PAGES - 1, number).ok_or(OUTSIDE)?),
+        (13, (Some(arguments), Some(results)), None) => {
+            sheet.push(up_to(ARGUMENTS, arguments).ok_or(OUTSIDE)?);
+            sheet.push(up_to(RESULTS, results).ok_or(OUTSIDE)?);
+        }
+        (5 | 9 | 12 | 13, ..) | (_, (Some(_), _), _) => return Err(MALFORMED),
         _ => {}
     }
     Ok(())
@@ -120,9 +129,9 @@ fn number(word: &[u8]) -> Option<i128> {
     Some(if digits.len() < word.len() { -size } else { size })
 }
 
-/// The page of this number, if there is one.
-fn page(number: i128) -> Option<u8> {
-    u8::try_from(number).ok().filter(|&page| page < PAGES)
+/// The byte of this number, unless it is below 0 or above the most.
+fn up_to(most: u8, number: i128) -> Option<u8> {
+    u8::try_from(number).ok().filter(|&byte| byte <= most)
 }
 
 #[inline(never)]
@@ -134,6 +143,11 @@ fn list_commands(sheet: &[u8], buffer: &mut [u8]) -> Result<usize, Refusal> {
             Push(number) => number,
             Bnz(distance) => distance.into(),
             OutputTo(page) => page.into(),
+            CallN(arguments, results) => {
+                text.push(b' ');
+                put_number(arguments.into(), &mut text);
+                results.into()
+            }
             _ => {
                 text.push(b'\n');
                 continue;
@@ -162,24 +176,39 @@ fn assemble(text: &[u8], buffer: &mut [u8]) -> Result<usize, Refusal> {
 /// Reads the first line: what follows it, or its refusal's number.
 fn read_line<'a>(text: &'a [u8], sheet: &mut Vec<u8>) -> Result<&'a [u8], u64> {
     let named = |(name, code): (&&[u8], u8)| Some((text.strip_prefix(name.trim_ascii_end())?, code));
-    let (rest, code) = NAMES.iter().zip(1..).find_map(named).ok_or(MALFORMED)?;
-    // OutputTo is found as Output, with which it starts.
+    let (rest, code) = NAMES[..11].iter().zip(1..).find_map(named).ok_or(MALFORMED)?;
+    // The last three are found as the names with which they start.
     if code == 4 {
         if let Some(rest) = rest.strip_prefix(b"To") {
-            let (number, rest) = operand(rest).ok_or(MALFORMED)?;
-            sheet.extend([12, page(number).ok_or(OUTSIDE)?]);
+            let (number, rest) = last_operand(rest).ok_or(MALFORMED)?;
+            sheet.extend([12, up_to(PAGES - 1, number).ok_or(OUTSIDE)?]);
             return Ok(rest);
+        }
+    }
+    if code == 10 {
+        if let Some(rest) = rest.strip_prefix(b"N") {
+            let (arguments, rest) = operand(rest).ok_or(MALFORMED)?;
+            let (results, rest) = last_operand(rest).ok_or(MALFORMED)?;
+            let arguments = up_to(ARGUMENTS, arguments).ok_or(OUTSIDE)?;
+            sheet.extend([13, arguments, up_to(RESULTS, results).ok_or(OUTSIDE)?]);
+            return Ok(rest);
+        }
+    }
+    if code == 11 {
+        if let Some(rest) = rest.strip_prefix(b"V") {
+            sheet.push(14);
+            return after_end(rest).ok_or(MALFORMED);
         }
     }
     sheet.push(code);
     match code {
         5 => {
-            let (number, rest) = operand(rest).ok_or(MALFORMED)?;
+            let (number, rest) = last_operand(rest).ok_or(MALFORMED)?;
             sheet.extend(i64::try_from(number).map_err(|_| OUTSIDE)?.to_le_bytes());
             Ok(rest)
         }
         9 => {
-            let (number, rest) = operand(rest).ok_or(MALFORMED)?;
+            let (number, rest) = last_operand(rest).ok_or(MALFORMED)?;
             sheet.extend(i16::try_from(number).map_err(|_| OUTSIDE)?.to_le_bytes());
             Ok(rest)
         }
@@ -187,8 +216,14 @@ fn read_line<'a>(text: &'a [u8], sheet: &mut Vec<u8>) -> Result<&'a [u8], u64> {
     }
 }
 
-/// The operand that ends a line, and what follows the line. Of a size of 2^64 and above comes 2^64 - 1, which is outside
-/// any range too.
+/// The operand that ends a line, and what follows the line.
+fn last_operand(text: &[u8]) -> Option<(i128, &[u8])> {
+    let (number, rest) = operand(text)?;
+    Some((number, after_end(rest)?))
+}
+
+/// The operand after a space, and what follows it. Of a size of 2^64 and above comes 2^64 - 1, which is outside any range
+/// too.
 fn operand(text: &[u8]) -> Option<(i128, &[u8])> {
     let word = text.strip_prefix(b" ")?;
     let digits = word.strip_prefix(b"-").unwrap_or(word);
@@ -201,7 +236,7 @@ fn operand(text: &[u8]) -> Option<(i128, &[u8])> {
         return None;
     }
     let number = if digits.len() < word.len() { -i128::from(size) } else { size.into() };
-    Some((number, after_end(&digits[count..])?))
+    Some((number, &digits[count..]))
 }
 
 /// What follows the line's end, which the text's end is too.
@@ -225,6 +260,11 @@ fn list(sheet: &[u8], buffer: &mut [u8]) -> Result<usize, Refusal> {
         text.extend_from_slice(name);
         let rest = &sheet[offset + 1..];
         let cut = Refusal::new(3, offset);
+        if code > 12 {
+            offset += list_call(code, rest, &mut text).map_err(|number| Refusal::new(number, offset))?;
+            count += 1;
+            continue;
+        }
         match code {
             5 => {
                 put_operand(i64::from_le_bytes(*rest.first_chunk().ok_or(cut)?), &mut text);
@@ -249,8 +289,30 @@ fn list(sheet: &[u8], buffer: &mut [u8]) -> Result<usize, Refusal> {
     hand_over(&text, buffer)
 }
 
+/// What follows the name of a CallN or a RetV: the command's width, or its refusal's number. Apart from the other operands,
+/// since names alone are listed at half the speed with one more of them in the same choice.
+fn list_call(code: u8, operands: &[u8], text: &mut Vec<u8>) -> Result<usize, u64> {
+    if code == 14 {
+        return Ok(1);
+    }
+    let [arguments, results] = *operands.first_chunk().ok_or(3u64)?;
+    if arguments > ARGUMENTS || results > RESULTS {
+        return Err(14);
+    }
+    if arguments >= 10 {
+        text.push(b'1');
+    }
+    text.extend_from_slice(&[b'0' + arguments % 10, b' ', b'0' + results, b'\n']);
+    Ok(3)
+}
+
 /// A number that ends a line.
 fn put_operand(number: i64, text: &mut Vec<u8>) {
+    put_number(number, text);
+    text.push(b'\n');
+}
+
+fn put_number(number: i64, text: &mut Vec<u8>) {
     let mut digits = [0; 20];
     let (mut rest, mut start) = (number.unsigned_abs(), digits.len());
     loop {
@@ -266,5 +328,4 @@ fn put_operand(number: i64, text: &mut Vec<u8>) {
         digits[start] = b'-';
     }
     text.extend_from_slice(&digits[start..]);
-    text.push(b'\n');
 }

@@ -92,6 +92,23 @@ fn calls() -> Workload {
     }
 }
 
+/// Calls with two arguments that bring back their difference, which the next one takes.
+fn returns() -> Workload {
+    let sheet = [Push(0), Push(3), Push(6), CallN(2, 1), Push(1), Bnz(-4), Sub, RetV];
+    Workload {
+        name: "returns",
+        sheet: encode(&sheet),
+        cells: vec![],
+        clearances: CLEARED_FOR_ALL,
+        lines: 0,
+        lua: Some(Lua {
+            setup: "local a = 0; local function f(x, y) return y - x end",
+            round: "a = f(a, 3)",
+            steps: 7,
+        }),
+    }
+}
+
 /// Calls that branch on hidden numbers, one way and the other; each return lowers the place's label again.
 fn hidden_branches() -> Workload {
     let caller = [Push(0), Load, Push(10), Call, Push(1), Load, Push(10), Call, Push(0), Jump];
@@ -202,15 +219,27 @@ fn mix() -> Workload {
 }
 
 pub fn all() -> Vec<Workload> {
-    vec![arithmetic(), walk(1024), calls(), hidden_branches(), lines(), pages(), cleared_pages(), mix()]
+    vec![
+        arithmetic(),
+        walk(1024),
+        calls(),
+        returns(),
+        hidden_branches(),
+        lines(),
+        pages(),
+        cleared_pages(),
+        mix(),
+    ]
 }
 
-/// The berth of the README: a run of 18 steps that comes to its end, with room for its three lines and the end line.
+/// The berth of the README: a run of 26 steps that comes to its end, with room for its three lines and the end line.
 pub fn berth() -> Workload {
     let sheet = [
-        &[Push(0), Load, Output][..],
-        &[Push(1), Load, Push(0), Load, Sub, Output],
-        &[Push(2), Load, Push(1), Load, Push(0), Load, Sub, Sub, Output],
+        &[Push(6), Jump][..],
+        &[Push(0), Load, Sub, RetV],
+        &[Push(0), Load, Output],
+        &[Push(1), Load, Push(2), CallN(1, 1), OutputTo(1)],
+        &[Push(2), Load, Push(1), Load, Push(2), CallN(1, 1), Sub, Output],
     ];
     Workload {
         name: "berth",
@@ -230,7 +259,7 @@ pub fn idle(commands: usize) -> Vec<u8> {
 
 /// Commands to read and to list, which are cut into texts of one length. They are so many that the processor cannot
 /// foresee their branches, as it would those of one text that is read again and again.
-pub fn texts() -> [(&'static str, Vec<Command>); 4] {
+pub fn texts() -> [(&'static str, Vec<Command>); 5] {
     const NAMES: [Command; 9] = [Add, Sub, Pop, Output, Load, Store, Jump, Call, Ret];
     let mut random = Random::new(2026);
     let mut drawn =
@@ -258,6 +287,14 @@ pub fn texts() -> [(&'static str, Vec<Command>); 4] {
                 0 => Push(random.below(64) as i64),
                 1 => Output,
                 _ => OutputTo(random.below(16) as u8),
+            }),
+        ),
+        (
+            "calls",
+            drawn(|random| match random.weighted(&[50, 10, 40]) {
+                0 => Push(random.below(64) as i64),
+                1 => RetV,
+                _ => CallN(random.below(16) as u8, random.below(2) as u8),
             }),
         ),
     ]

@@ -11,7 +11,7 @@ use model::engine::{Lent, ALLOWANCE, CLEARED_FOR_ALL};
 use model::machine::Stop;
 use model::rules::{Table, STANDARD};
 use model::sample::Sample;
-use model::sheet::{encode, Command::*, PAGES};
+use model::sheet::{encode, Command, Command::*, ARGUMENTS, PAGES};
 use model::{Atom, Label};
 
 /// One of the two interpreters with the tag engine in Rust.
@@ -162,6 +162,74 @@ fn clearance_words_agree_with_the_model() {
     }
     lent.labels[0] = -1;
     assert_eq!(refused(&lent, &[]), (5, 0));
+}
+
+/// A CallN's operands that there are and that there are not, whole and cut.
+#[test]
+fn call_operands_agree_with_the_model() {
+    let lent = Lent::roomy(&[], 1);
+    let pairs =
+        (0..=u8::MAX).flat_map(|byte| [[byte, 0], [byte, 1], [byte, 2], [0, byte], [15, byte], [16, byte]]);
+    for operands in pairs {
+        let sheet = [encode(&[Push(2)]), vec![13], operands.to_vec()].concat();
+        for cut in 0..3 {
+            let sheet = &sheet[..sheet.len() - cut];
+            hold(sheet, &lent, &CLEARED_FOR_ALL, ALLOWANCE, &format!("{operands:?}, {cut} cut"));
+        }
+    }
+}
+
+/// Calls for so many arguments: with all of them, with one missing, with a frame in its place. Then both returns, at once
+/// and with arguments dropped, to the command after the call, which drops them again; on a stack that the call finds full
+/// and not, at a hidden place and not, by a hidden target and not.
+#[test]
+fn calls_agree_with_the_model() {
+    let lent = Lent::roomy(&[Atom { number: 0, label: 1 }], 1);
+    let mut stops = [0; 12];
+    let mut hold = |commands: &[Command]| {
+        for answer in hold(&encode(commands), &lent, &CLEARED_FOR_ALL, 300, &format!("{commands:?}")) {
+            assert_eq!(answer.words[0], 0, "{commands:?}");
+            stops[answer.words[2] as usize] += 1;
+        }
+    };
+    let onward = |commands: &[Command]| Push(commands.len() as i64 + 2);
+    for (arguments, results) in (0..=ARGUMENTS).flat_map(|arguments| [(arguments, 0), (arguments, 1)]) {
+        let (call, count) = (CallN(arguments, results), usize::from(arguments));
+        for missing in 0..=count {
+            for due in [None, Some(0), Some(1)] {
+                let mut commands = vec![];
+                for argument in 1..=count {
+                    match due {
+                        _ if argument != missing => commands.push(Push(argument as i64)),
+                        Some(due) => commands.extend([onward(&commands), CallN(0, due)]),
+                        None => {}
+                    }
+                }
+                commands.extend([onward(&commands), call]);
+                hold(&commands);
+            }
+        }
+        for dropped in [0, 1, count.saturating_sub(1), count] {
+            for (below, back) in [0, 1, 255 - count].map(|below| [(below, Ret), (below, RetV)]).concat() {
+                let mut commands = vec![Push(7); below];
+                if dropped % 2 == 1 {
+                    commands.extend([Push(0), Load, Bnz(1)]);
+                }
+                commands.extend(vec![Push(5); count]);
+                if below == 1 {
+                    commands.extend([Push(0), Load, Push(commands.len() as i64 + 5), Add, call]);
+                } else {
+                    commands.extend([onward(&commands), call]);
+                }
+                commands.extend(vec![Pop; dropped]);
+                commands.push(back);
+                hold(&commands);
+            }
+        }
+    }
+    for stop in [Stop::End, Stop::ValueMissing, Stop::FrameMissing, Stop::ResultsDiffer] {
+        assert!(stops[stop as usize] > 0, "{stop:?}");
+    }
 }
 
 #[test]

@@ -36,7 +36,7 @@ page)
     done
     ;;
 text)
-    printf '%s\n' Add Sub Pop Output 'Push -9223372036854775808' Load Store Jump 'Bnz 032767' Call Ret 'OutputTo 015' \
+    printf '%s\n' Add Sub Pop Output 'Push -9223372036854775808' Load Store Jump 'Bnz 032767' Call Ret 'OutputTo 015' 'CallN 015 1' RetV \
         > "$work/seeds/commands"
     yes Add | head -n 4097 > "$work/seeds/lines"
     ;;

@@ -62,7 +62,8 @@ int LLVMFuzzerTestOneInput(const uint8_t *input, size_t length)
     }
 
     luvrodan_written listed = list(input, length);
-    check(listed.refusal <= LUVRODAN_REFUSED_OPERAND || listed.refusal == LUVRODAN_REFUSED_PAGE);
+    check(listed.refusal <= LUVRODAN_REFUSED_OPERAND || listed.refusal == LUVRODAN_REFUSED_PAGE
+          || listed.refusal == LUVRODAN_REFUSED_CALL);
     check(listed.refusal == 0 || listed.position < length);
     return 0;
 }

@@ -22,7 +22,7 @@ pub enum Refusal {
     TooManyCommands {
         offset: u64,
     },
-    /// A code that is not 01 to 0c.
+    /// A code that is not 01 to 0e.
     UnknownCode {
         offset: u64,
     },
@@ -32,6 +32,10 @@ pub enum Refusal {
     },
     /// An OutputTo whose page is over 15.
     Page {
+        offset: u64,
+    },
+    /// A CallN of more than 15 arguments or more than one result.
+    Call {
         offset: u64,
     },
     /// Two runs of cells of different lengths (the shorter), or more than 1,024 cells (1,024).
@@ -86,6 +90,8 @@ pub enum Stop {
     Overflow = 9,
     /// A line whose label is not inside its page's clearance; tested after `NotAllowed`, before `OutputFull`.
     NotCleared = 10,
+    /// A Ret to a frame with a result due, or a RetV to one with none; tested after `FrameMissing`.
+    ResultsDiffer = 11,
 }
 
 /// What an accepted run came to. Faults and kernel steps are 0 from the plain engine.
@@ -120,6 +126,7 @@ impl Refusal {
             Refusal::OperandOutside { .. } => 11,
             Refusal::Page { .. } => 12,
             Refusal::Clearance { .. } => 13,
+            Refusal::Call { .. } => 14,
         }
     }
 
@@ -130,6 +137,7 @@ impl Refusal {
             | Refusal::UnknownCode { offset }
             | Refusal::CutOperand { offset }
             | Refusal::Page { offset }
+            | Refusal::Call { offset }
             | Refusal::RuleTable { offset } => offset,
             Refusal::CellCount { place } => place,
             Refusal::LabelOutside { cell } => cell,
@@ -175,13 +183,14 @@ impl fmt::Display for Stop {
             Stop::AllowanceSpent => "allowance spent",
             Stop::PlaceOutside => "place outside the sheet",
             Stop::ValueMissing => "a value needed, none there",
-            Stop::FrameMissing => "a frame needed, none on top",
+            Stop::FrameMissing => "a frame needed, none there",
             Stop::AddressOutside => "address outside the cells",
             Stop::NotAllowed => "not allowed",
             Stop::StackFull => "stack full",
             Stop::OutputFull => "output space full",
             Stop::Overflow => "result outside 64 bits",
             Stop::NotCleared => "line not cleared for its page",
+            Stop::ResultsDiffer => "results due do not match the return",
         })
     }
 }
@@ -235,6 +244,7 @@ fn refusal(number: u64, place: u64) -> Refusal {
         11 => Refusal::OperandOutside { line: place },
         12 => Refusal::Page { offset: place },
         13 => Refusal::Clearance { page: place },
+        14 => Refusal::Call { offset: place },
         _ => panic!("refusal {number} is not of this interface"),
     }
 }
@@ -252,6 +262,7 @@ fn report(raw: RawResult) -> Report {
         8 => Stop::OutputFull,
         9 => Stop::Overflow,
         10 => Stop::NotCleared,
+        11 => Stop::ResultsDiffer,
         number => panic!("stop {number} is not of this interface"),
     };
     Report {

@@ -25,9 +25,9 @@ pub const PAGE_LIMIT: usize = sys::PAGE_LIMIT;
 /// The words of a rule memory: code, P, L1, L2, L3, new place label, result label.
 pub const RULE_MEMORY_WORDS: usize = 7;
 
-/// The standard rules as a table. OutputTo has none of its own: it is under Output's.
+/// The standard rules as a table. OutputTo and CallN have none of their own: they are under Output's and Call's.
 #[rustfmt::skip]
-pub const STANDARD_TABLE: [u8; 55] = [
+pub const STANDARD_TABLE: [u8; 60] = [
     0x17, 0x11, 0x15, 0x12, 0x13,                                     // Add
     0x17, 0x11, 0x15, 0x12, 0x13,                                     // Sub
     0x17, 0x11, 0x10,                                                 // Pop
@@ -39,6 +39,7 @@ pub const STANDARD_TABLE: [u8; 55] = [
     0x17, 0x15, 0x12, 0x11, 0x10,                                     // Bnz
     0x17, 0x15, 0x12, 0x11, 0x11,                                     // Call
     0x17, 0x12, 0x10,                                                 // Ret
+    0x17, 0x13, 0x15, 0x12, 0x11,                                     // RetV
 ];
 
 /// Memory lent to a run, as `include/luvrodan.h` describes it.

@@ -38,11 +38,14 @@ impl fmt::Display for Line {
     }
 }
 
-/// A stack entry: a value, or the frame that a Call left.
+/// A stack entry: a value, or the frame that a call left.
 #[derive(Clone, Copy, Debug, PartialEq, Eq)]
 pub enum Entry {
     Value(Atom),
+    /// A frame with no result due: Ret returns to it.
     Frame(Atom),
+    /// A frame with one result due: RetV returns to it.
+    FrameDue(Atom),
 }
 
 /// Cells, working space, output space, rule memory and clearances. A run starts at place 0 with an empty stack and no
@@ -170,8 +173,10 @@ impl Machine {
         self.stack.chunks_exact(3).take(self.depth).map(|words| {
             let atom = Atom { number: words[1], label: words[2] as u32 };
             match words[0] {
-                0 => Entry::Value(atom),
-                _ => Entry::Frame(atom),
+                sys::ENTRY_VALUE => Entry::Value(atom),
+                sys::ENTRY_FRAME => Entry::Frame(atom),
+                sys::ENTRY_FRAME_RESULT => Entry::FrameDue(atom),
+                word => panic!("entry {word} is not of this interface"),
             }
         })
     }

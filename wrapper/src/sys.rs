@@ -13,6 +13,11 @@ pub const PAGE_LIMIT: usize = 33_792;
 pub const SHEET_LIMIT: usize = 36_864;
 pub const TEXT_LIMIT: usize = 106_496;
 
+/// Kinds of stack entries.
+pub const ENTRY_VALUE: i64 = 0;
+pub const ENTRY_FRAME: i64 = 1;
+pub const ENTRY_FRAME_RESULT: i64 = 2;
+
 /// Kinds of lines.
 pub const LINE_NUMBER: i64 = 0;
 pub const LINE_END: i64 = 1;

@@ -117,6 +117,113 @@ fn stack_and_stops() {
     assert_eq!(stop(&hidden, 999), Stop::NotAllowed);
 }
 
+/// The place, the stop and the stack after so many steps, alike on both engines.
+fn stopped(sheet: &[u8], fuel: u64) -> (i64, Stop, Vec<Entry>) {
+    let mut machine = Machine::new(&CELLS, 9);
+    let plain = machine.run_plain(sheet, fuel).unwrap();
+    let stack: Vec<_> = machine.stack().collect();
+    let tagged = machine.run_tagged(sheet, &STANDARD_TABLE, fuel).unwrap();
+    assert_eq!((plain.place, plain.stop), (tagged.place, tagged.stop));
+    assert_eq!(machine.stack().collect::<Vec<_>>(), stack);
+    (plain.place, plain.stop, stack)
+}
+
+#[test]
+fn calls_that_return() {
+    // The call at 8 takes 30 and cell 1 and brings back their difference.
+    let difference = sheet(&[&push(4), &[8], &[2, 14], &push(30), &push(1), &[6], &push(2), &[13, 2, 1, 4]]);
+    let atom = |number, label| Atom { number, label };
+    let value = |number, label| Entry::Value(atom(number, label));
+    let frame = Entry::FrameDue(atom(9, 0));
+    for (fuel, place, stack) in [
+        (6, 8, vec![value(30, 0), value(5, 1), value(2, 0)]),
+        (7, 2, vec![frame, value(30, 0), value(5, 1)]),
+        (8, 3, vec![frame, value(-25, 1)]),
+        (9, 9, vec![value(-25, 1)]),
+    ] {
+        assert_eq!(stopped(&difference, fuel), (place, Stop::AllowanceSpent, stack));
+    }
+    let mut machine = Machine::new(&CELLS, 2);
+    for (fuel, row) in [(7, [13, 0, 0, -1, -1, 0, 0]), (9, [14, 0, 1, 0, -1, 0, 1])] {
+        machine.run_tagged(&difference, &STANDARD_TABLE, fuel).unwrap();
+        assert_eq!(machine.rule_memory(), row);
+    }
+    assert_eq!(machine.run_plain(&difference, 10).unwrap().stop, Stop::End);
+    assert_eq!(view(&machine, 1), ["0 -25 00000001", "0 end 00000000"]);
+    assert_eq!(view(&machine, 0), ["0 end 00000000"]);
+}
+
+#[test]
+fn hidden_returns() {
+    // The call at 10 branches on cell 1 and brings back 9 where it is not 0: owner 0's, and the end is public again.
+    let sheet = sheet(&[
+        &[&push(7)[..], &[8, 9, 3, 0]].concat(),
+        &[&push(0)[..], &[14], &push(9), &[14]].concat(),
+        &[&push(1)[..], &[6], &push(2), &[13, 1, 1, 4]].concat(),
+    ]);
+    let mut machine = Machine::new(&CELLS, 2);
+    for engine in ["plain", "tagged"] {
+        let report = match engine {
+            "plain" => machine.run_plain(&sheet, 100),
+            _ => machine.run_tagged(&sheet, &STANDARD_TABLE, 100),
+        }
+        .unwrap();
+        assert_eq!((report.stop, report.steps, report.place_label), (Stop::End, 10, 0));
+        assert_eq!(view(&machine, 1), ["0 9 00000001", "0 end 00000000"]);
+        assert!(machine.view_is_whole(0));
+    }
+}
+
+#[test]
+fn arguments_of_calls() {
+    // So many values and the target, then a call for so many of them.
+    let call = |values: usize, arguments: u8, results: u8| {
+        let sheet = sheet(&[&push(1).repeat(values), &push(values as i64 + 2), &[13, arguments, results]]);
+        stopped(&sheet, 999).1
+    };
+    for arguments in 0..=15 {
+        assert_eq!(call(arguments.into(), arguments, 1), Stop::End);
+        if arguments > 0 {
+            assert_eq!(call(usize::from(arguments) - 1, arguments, 0), Stop::ValueMissing);
+        }
+    }
+    // The stack may be full: a call does not grow it.
+    assert_eq!(call(255, 15, 1), Stop::End);
+    assert_eq!(stopped(&[13, 0, 0], 9).1, Stop::ValueMissing);
+    // An argument that is a frame.
+    let frame = sheet(&[&push(2), &[13, 0, 0], &push(4), &[13, 1, 0]]);
+    let atom = |number| Atom { number, label: 0 };
+    let stack = vec![Entry::Frame(atom(2)), Entry::Value(atom(4))];
+    assert_eq!(stopped(&frame, 9), (3, Stop::ValueMissing, stack));
+}
+
+#[test]
+fn results_due() {
+    let stop = |parts: &[&[u8]]| stopped(&sheet(parts), 99).1;
+    // A Call has no result due.
+    assert_eq!(stop(&[&push(7), &push(3), &[10], &[14]]), Stop::ResultsDiffer);
+    assert_eq!(stop(&[&push(2), &[13, 0, 0], &push(7), &[14]]), Stop::ResultsDiffer);
+    assert_eq!(stop(&[&push(2), &[13, 0, 1], &[11]]), Stop::ResultsDiffer);
+    // Where they match the run goes on, here to a Pop that finds nothing.
+    assert_eq!(stop(&[&push(3), &[13, 0, 0], &[3], &[11]]), Stop::ValueMissing);
+    assert_eq!(stop(&[&push(4), &[13, 0, 1], &[3, 3], &push(7), &[14]]), Stop::ValueMissing);
+    // A value before a frame, a frame before the results.
+    assert_eq!(stop(&[&[14]]), Stop::ValueMissing);
+    assert_eq!(stop(&[&push(2), &[13, 0, 1], &[14]]), Stop::ValueMissing);
+    assert_eq!(stop(&[&push(7), &[14]]), Stop::FrameMissing);
+    assert_eq!(stop(&[&push(7), &push(7), &[14]]), Stop::FrameMissing);
+    assert_eq!(stop(&[&push(2), &[13, 0, 1], &push(7), &[11]]), Stop::FrameMissing);
+    // The command is not carried out, and no rule was asked.
+    let mut machine = Machine::new(&CELLS, 9);
+    let sheet = sheet(&[&push(2), &[13, 0, 0], &push(7), &[14]]);
+    let report = machine.run_tagged(&sheet, &STANDARD_TABLE, 99).unwrap();
+    assert_eq!((report.stop.number(), report.steps, report.place, report.faults), (11, 3, 3, 3));
+    assert_eq!(report.stop.to_string(), "results due do not match the return");
+    assert_eq!(machine.rule_memory(), [5, 0, -1, -1, -1, 0, 0]);
+    let atom = |number| Atom { number, label: 0 };
+    assert_eq!(machine.stack().collect::<Vec<_>>(), [Entry::Frame(atom(2)), Entry::Value(atom(7))]);
+}
+
 #[test]
 fn overflow() {
     // A line, then 2^63-1 and 1 in place of their sum; the Add has been ruled on.
@@ -218,16 +325,33 @@ fn refusals() {
     assert_eq!(refused(&[3, 9, 0], 0), Refusal::CutOperand { offset: 1 });
     assert_eq!(refused(&[3, 12], 0), Refusal::CutOperand { offset: 1 });
     assert_eq!(refused(&[3, 12, 16], 0), Refusal::Page { offset: 1 });
-    assert_eq!(refused(&[12, 15, 13], 0), Refusal::UnknownCode { offset: 2 });
+    assert_eq!(refused(&[12, 15, 15], 0), Refusal::UnknownCode { offset: 2 });
+    assert_eq!(refused(&[14, 13, 0], 0), Refusal::CutOperand { offset: 1 });
+    assert_eq!(refused(&[14, 13, 16, 0], 0), Refusal::Call { offset: 1 });
+    assert_eq!(refused(&[14, 13, 15, 2], 0), Refusal::Call { offset: 1 });
+    assert_eq!(refused(&[13, 15, 1, 13, 0xff, 0xff, 0], 1_000_001), Refusal::Call { offset: 3 });
     assert_eq!(refused(&[], 1_000_001), Refusal::Allowance);
     assert_eq!(machine.run_tagged(&[], &[0x17], 0), Err(Refusal::RuleTable { offset: 1 }));
+    // Without RetV's rule.
+    assert_eq!(machine.run_tagged(&[], &STANDARD_TABLE[..55], 0), Err(Refusal::RuleTable { offset: 55 }));
     machine.set_rule_memory([1, 0, 1, 1, -1, 0, 0]);
     assert_eq!(machine.run_tagged(&[], &STANDARD_TABLE, 0), Err(Refusal::RuleMemory));
     machine.set_rule_memory([1, 0, 1, 1, -1, 0, 1]);
     assert!(machine.run_tagged(&[], &STANDARD_TABLE, 0).is_ok());
-    for (code, accepted) in [(4, true), (12, true), (13, false)] {
-        machine.set_rule_memory([code, 0, 1, -1, -1, 0, 1]);
-        assert_eq!(machine.run_tagged(&[], &STANDARD_TABLE, 0).is_ok(), accepted);
+    for (row, accepted) in [
+        ([4, 0, 1, -1, -1, 0, 1], true),
+        ([12, 0, 1, -1, -1, 0, 1], true),
+        ([10, 4, 1, -1, -1, 5, 4], true),
+        ([13, 4, 1, -1, -1, 5, 4], true),
+        ([13, 4, 1, -1, -1, 5, 5], false),
+        ([13, 4, 1, 0, -1, 5, 4], false),
+        ([14, 4, 1, 2, -1, 2, 5], true),
+        ([14, 4, 1, 2, -1, 2, 1], false),
+        ([14, 4, 1, -1, -1, 2, 5], false),
+        ([15, 0, 1, -1, -1, 0, 1], false),
+    ] {
+        machine.set_rule_memory(row);
+        assert_eq!(machine.run_tagged(&[], &STANDARD_TABLE, 0).is_ok(), accepted, "{row:?}");
     }
     let many = vec![CELLS[0]; 1025];
     assert_eq!(Machine::new(&many, 0).run_plain(&[], 0), Err(Refusal::CellCount { place: 1024 }));
@@ -235,6 +359,8 @@ fn refusals() {
     assert_eq!((refusal.number(), refusal.place(), refusal.to_string()), (8, 3, "refused 8 3".into()));
     let refusal = Refusal::Page { offset: 7 };
     assert_eq!((refusal.number(), refusal.place(), refusal.to_string()), (12, 7, "refused 12 7".into()));
+    let refusal = Refusal::Call { offset: 7 };
+    assert_eq!((refusal.number(), refusal.place(), refusal.to_string()), (14, 7, "refused 14 7".into()));
 }
 
 /// Runs on lent memory with these lengths of program, stack and handler, without output space.
@@ -316,6 +442,7 @@ fn pages() {
     assert_eq!(page(&[]), b"job 0\n");
     assert_eq!(page(&[0x43, 0]), b"refused 2 0\n");
     assert_eq!(page(&[0x43, 12, 16]), b"refused 12 0\n");
+    assert_eq!(page(&[0x43, 13, 0, 2]), b"refused 14 0\n");
     assert_eq!(page(&[&[0x43][..], &push(-5), &[4]].concat()), b"0 -5 00000000\n0 end 00000000\n");
     assert_eq!(page(&[&[0x43][..], &push(-5), &[12, 15]].concat()), b"15 -5 00000000\n0 end 00000000\n");
     let mut buffer = vec![1; PAGE_LIMIT - 1];
@@ -333,6 +460,8 @@ fn texts() {
     assert_eq!(relist("Push -007\nBnz -0").as_deref(), Ok("Push -7\nBnz 0\n"));
     assert_eq!(assemble("OutputTo 15\nOutput"), Ok(vec![12, 15, 4]));
     assert_eq!(relist("OutputTo 007\nOutputTo -0").as_deref(), Ok("OutputTo 7\nOutputTo 0\n"));
+    assert_eq!(assemble("CallN 2 1\nRetV\nCall"), Ok(vec![13, 2, 1, 14, 10]));
+    assert_eq!(relist("CallN 015 -0\nCallN 0 01").as_deref(), Ok("CallN 15 0\nCallN 0 1\n"));
     assert_eq!(relist("").as_deref(), Ok(""));
     let longest = "Push -9223372036854775808\n".repeat(4096);
     let sheet = assemble(&longest).unwrap();
@@ -360,17 +489,27 @@ fn refused_texts() {
     assert_eq!(refused("Bnz 32768"), Refusal::OperandOutside { line: 1 });
     assert_eq!(refused("Output\nOutputTo 16"), Refusal::OperandOutside { line: 2 });
     assert_eq!(refused("Output 1"), Refusal::BadLine { line: 1 });
+    for operands in ["", " 2", " 2 1 0", " 2  1", " 2 1 ", " 16 x", " x 2"] {
+        assert_eq!(refused(&format!("CallN{operands}")), Refusal::BadLine { line: 1 }, "{operands}");
+    }
+    for operands in [" 16 0", " 15 2", " -1 1", " 0 -1", " 99999999999999999999 1"] {
+        assert_eq!(refused(&format!("CallN{operands}")), Refusal::OperandOutside { line: 1 }, "{operands}");
+    }
+    assert_eq!(refused("RetV 1"), Refusal::BadLine { line: 1 });
     assert_eq!(refused(&"Add\n".repeat(4097)), Refusal::TooManyLines { line: 4097 });
     assert_eq!(list(&[3; 4097]), Err(Refusal::TooManyCommands { offset: 4096 }));
     assert_eq!(list(&[3, 0]), Err(Refusal::UnknownCode { offset: 1 }));
     assert_eq!(list(&[3, 9, 0]), Err(Refusal::CutOperand { offset: 1 }));
     assert_eq!(list(&[3, 12, 0xff]), Err(Refusal::Page { offset: 1 }));
+    assert_eq!(list(&[3, 13, 1, 2]), Err(Refusal::Call { offset: 1 }));
     for (refusal, message) in [
         (refused("\n"), "refused 10 1: line 1 is not a command with its operands"),
         (refused("Add\nBnz -32769"), "refused 11 2: line 2 has an operand outside its command's range"),
         (refused(&"Add\n".repeat(5000)), "refused 1 4097: line 4097 is one too many"),
         (assemble_into(b"Add", &mut []).unwrap_err(), "refused 8 4: the buffer is too short"),
-        (list(&[13]).unwrap_err(), "refused 2 0"),
+        (list(&[15]).unwrap_err(), "refused 2 0"),
+        (list(&[13, 16]).unwrap_err(), "refused 3 0"),
+        (list(&[13, 16, 0]).unwrap_err(), "refused 14 0"),
     ] {
         assert_eq!(refusal.to_string(), message);
     }

@@ -4,8 +4,9 @@ use mathlib.Core.Path.{_≡_}
 use mathlib.Core.List.{List, [], _∷_}
 use Prim.Native.Nat.{ℕ, zero, suc, _*_, _-_, _^_, _≤_}
 use native.Mathlib.Omega.{arith}
-use lib.IntN.{ℤ, negsuc}
+use lib.IntN.{ℤ, pos, negsuc}
 use lib.ListN.{length, length-append, replicate}
+use borrow.Author.Tests.{lt-ltb}
 use Rattle.word.specs.Text.{digitCount, decimal}
 use Rattle.word.specs.Wrap.{Signed}
 use Rattle.word.proofs.Laws.Field.{bytes-length}
@@ -14,11 +15,13 @@ use Rattle.program.specs.declared.Command.{Command}
 use Rattle.program.specs.declared.Command.the-variants.{Push}
 use Rattle.program.specs.declared.Operand.{Operand}
 use Rattle.program.specs.declared.Operand.the-variants as Operand
-use Rattle.program.specs.Command.{opcode, operand, operandOf, width, operandWidth}
+use Rattle.program.specs.Command.{opcode, operand, operandOf, argumentsOf, resultsOf}
 use Rattle.program.specs.Name.{letters}
 use Rattle.program.specs.Encode.{Fits, Writable, AllWritable, encodeCommand, encode}
+use Rattle.program.proofs.Counting.{word-range}
+use Rattle.program.proofs.Encoding.{operand-length}
 use Rattle.program.proofs.Ranges.{width-most, fits-word, page-digits}
-use Rattle.assembly.specs.Assembly.{newline, operandText, lineText, listing}
+use Rattle.assembly.specs.Assembly.{newline, space, operandText, lineText, listing}
 use Rattle.assembly.proofs.Rows.{operandMost, line-most}
 
 -- ════════════════════════════════════════════════════════════════════════════════════════════
@@ -27,7 +30,7 @@ use Rattle.assembly.proofs.Rows.{operandMost, line-most}
 
 command-length : (c : Command) → length (encodeCommand c) ≤ 9
 command-length c =
-    let o = opcode c in omega (arith, bytes-length (operandWidth o) (operand c), width-most o)
+    let o = opcode c in omega (arith, operand-length (operandOf o) (operand c), width-most o)
 
 pub encode-length : (cs : List Command) → length (encode cs) ≤ 9 * length cs
 unfolding encode
@@ -35,18 +38,28 @@ encode-length [] = omega arith
 encode-length (c ∷ cs) =
     omega (arith, length-append (encodeCommand c) (encode cs), command-length c, encode-length cs)
 
-operand-length : (x : Operand) (z : ℤ) → Fits x z → Signed 64 z → length (operandText (width x) z) ≤ operandMost x
-operand-length (Operand.Signed zero) z w h = omega arith
-operand-length (Operand.Signed (suc k)) z w h = omega (arith, decimal-length z h)
-operand-length Operand.Page z w h = omega (arith, page-digits z w)
+text-length : (x : Operand) (z : ℤ) → Fits x z → Signed 64 z → length (operandText x z) ≤ operandMost x
+text-length (Operand.Signed zero) z w h = omega arith
+text-length (Operand.Signed (suc k)) z w h = omega (arith, decimal-length z h)
+text-length Operand.Page z w h = omega (arith, page-digits z w)
+text-length Operand.Counts z w h =
+    let a = argumentsOf z in
+    let d = resultsOf z in
+    let (f, g) = word-range z w in
+    omega (
+      arith,
+      length-append (space ∷ decimal (pos a)) (space ∷ decimal (pos d)),
+      page-digits (pos a) (lt-ltb a 16 f),
+      page-digits (pos d) (lt-ltb d 16 (omega arith)),
+    )
 
 line-length : (c : Command) → Writable c → length (lineText c) ≤ 25
 line-length c w =
     let o = opcode c in
     omega (
       arith,
-      length-append (letters o) (operandText (operandWidth o) (operand c)),
-      operand-length (operandOf o) (operand c) w (fits-word o (operand c) w),
+      length-append (letters o) (operandText (operandOf o) (operand c)),
+      text-length (operandOf o) (operand c) w (fits-word o (operand c) w),
       line-most o,
     )
 

@@ -10,13 +10,13 @@ use Rattle.word.specs.Lay.{laid}
 use Rattle.word.specs.Text.{putOut}
 use Rattle.word.proofs.Bool.{never}
 use Rattle.word.proofs.Lay.{laidAt-nil, laidAt-zero, length-laid}
-use Rattle.word.proofs.Laws.Field.{bytes-length}
 use Rattle.word.proofs.Laws.Text.{put-room}
 use Rattle.program.specs.declared.Command.{Command}
-use Rattle.program.specs.Command.{opcodeOf, codeOf, operandWidth, opcode, operand}
-use Rattle.program.specs.Decode.{Decoded, refused, accepted, refusal, prepend, commandLimit}
+use Rattle.program.specs.Command.{opcodeOf, codeOf, operandOf, operandWidth, opcode, operand}
+use Rattle.program.specs.Decode.{Decoded, refused, accepted, refusal, commandLimit}
 use Rattle.program.specs.Encode.{encodeCommand, encodeCode, encode}
 use Rattle.program.proofs.Codes.{opcodeOf-codeOf}
+use Rattle.program.proofs.Encoding.{operand-length}
 use Rattle.assembly.specs.declared.line.Line.{Line}
 use Rattle.assembly.specs.declared.line.Line.the-variants.{Is, Malformed, Outside}
 use Rattle.assembly.specs.Assembly as Text
@@ -166,7 +166,8 @@ module _ (s : List ℕ) (at count size : ℕ) (old new : List ℕ) (g : Gathered
 
         command-bytes : length (encodeCommand c) ≡ bytes
         unfolding c
-        command-bytes = ap suc (bytes-length (operandWidth (opcode (said .command))) (operand (said .command))) ∙ omega (arith, said .bytes-are)
+        command-bytes =
+            let d = said .command in ap suc (operand-length (operandOf (opcode d)) (operand d)) ∙ omega (arith, said .bytes-are)
 
         grown : size + bytes ≡ length (encode (g .done ++ (c ∷ [])))
         grown =

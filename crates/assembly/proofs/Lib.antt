@@ -8,6 +8,7 @@ pub mod Claims
 pub mod Trials
 pub mod Words
 pub mod Lines
+pub mod Number
 pub mod Operand
 pub mod Scanning
 pub mod Keeping

@@ -5,10 +5,11 @@ use mathlib.Core.Bool.{Bool, true, false}
 use mathlib.Core.List.{List, [], _∷_}
 use Prim.Native.Nat.{ℕ, suc, _+_, _*_, _^_, _<_, _≤_}
 use native.Mathlib.Omega.{arith}
-use lib.IntN.{ℤ}
+use lib.IntN.{ℤ, negsuc}
 use lib.ListN.{length, drop, getD, length-drop, drop-of-length-le}
 use lib.Dec.{leb, eqb}
 use lib.Seq.{drop-drop}
+use borrow.Author.Tests.{eqb-true}
 use Rattle.word.specs.Choose.{choose}
 use Rattle.word.specs.Exact.{exactly}
 use Rattle.word.specs.Text.{numeralValue}
@@ -17,9 +18,12 @@ use Rattle.word.specs.declared.exact.Exact.{Exact}
 use Rattle.word.specs.declared.exact.Exact.the-variants as Exact
 use Rattle.word.specs.declared.numeral.Decimal.{Decimal}
 use Rattle.word.specs.declared.numeral.Decimal.the-variants.{Is, Beyond, Missing}
+use Rattle.program.specs.declared.Operand.{Operand}
+use Rattle.program.specs.declared.Operand.the-variants.{Signed, Page, Counts}
 use Rattle.word.proofs.Laws.Reading.{minus-within}
+use Rattle.assembly.proofs.Keeping.{byte-within}
 use Rattle.assembly.specs.Assembly.{before, cut, linesOf}
-use Rattle.assembly.specs.Scan.{lettersTo, lettersFrom, firstLine}
+use Rattle.assembly.specs.Scan.{lettersTo, lettersFrom, spacedAt, counted, countsAfter, operandAt, NextWithin, firstLine}
 
 -- ════════════════════════════════════════════════════════════════════════════════════════════
 -- The lines of a text
@@ -104,12 +108,6 @@ leading-length (c ∷ t) = by (isDigit c) (leading-length t)
     by true h = omega arith
     by false h = omega arith
 
--- it is at most n
-abbrev pub NextWithin : ℕ → Decimal → Type 0
-NextWithin n (Is z next) = next ≤ n
-NextWithin n (Beyond next) = next ≤ n
-NextWithin n Missing = Unit {0}
-
 decimal-to : (n next : ℕ) (x : Exact) → next ≤ n → NextWithin n (decimalTo next x)
 decimal-to n next (Exact.Number z) h = h
 decimal-to n next Exact.Outside h = h
@@ -132,8 +130,27 @@ decimal-next s at h = by (eqb (getD s at 0) 45) refl
     by false e =
         decimal-from (length s) false at (leadingDigits (drop at s)) (omega (arith, leading-length (drop at s), length-drop at s))
 
-pub decimal-within : (s : List ℕ) (at : ℕ) (z : ℤ) (next : ℕ) → at ≤ length s → decimalAt s at ≡ Is z next → next ≤ length s
-decimal-within s at z next h e = rw e at (decimal-next s at h)
+-- and so is that after a space, and after an operand
+module _ (s : List ℕ) where
+  pub spaced-within : (at : ℕ) → at ≤ length s → NextWithin (length s) (spacedAt s at)
+  unfolding spacedAt
+  spaced-within at h = by (eqb (getD s at 10) 32) refl
+    where
+      by : (t : Bool) → eqb (getD s at 10) 32 ≡ t → NextWithin (length s) (choose t (decimalAt s (at + 1)) Missing)
+      by true e = decimal-next s (at + 1) (let k = byte-within s at 32 (λ x. omega arith) (eqb-true (getD s at 10) 32 e) in omega arith)
+      by false e = tt
 
-pub beyond-within : (s : List ℕ) (at next : ℕ) → at ≤ length s → decimalAt s at ≡ Beyond next → next ≤ length s
-beyond-within s at next h e = rw e at (decimal-next s at h)
+  counted-within : (a : ℤ) (d : Decimal) → NextWithin (length s) d → NextWithin (length s) (counted a d)
+  counted-within a Missing h = tt
+  counted-within a (Beyond next) h = h
+  counted-within a (Is z next) h = h
+
+  counts-within : (d : Decimal) → NextWithin (length s) d → NextWithin (length s) (countsAfter s d)
+  counts-within Missing h = tt
+  counts-within (Beyond next) h = counted-within (negsuc 0) (spacedAt s next) (spaced-within next h)
+  counts-within (Is z next) h = counted-within z (spacedAt s next) (spaced-within next h)
+
+  pub operand-within : (at : ℕ) (x : Operand) → at ≤ length s → NextWithin (length s) (operandAt s at x)
+  operand-within at (Signed k) h = spaced-within at h
+  operand-within at Page h = spaced-within at h
+  operand-within at Counts h = counts-within (spacedAt s at) (spaced-within at h)

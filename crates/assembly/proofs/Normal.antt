@@ -1,29 +1,35 @@
 -- What is read of a text are commands that can be written; and a normal text that is read is what is listed of its commands.
 -- Assumes nothing.
-use mathlib.Core.Path.{_≡_, refl, _∙_}
-use mathlib.Core.Bool.{Bool, true, false}
+use mathlib.Core.Path.{_≡_, refl, ap, _∙_}
+use mathlib.Core.Bool.{Bool, true, false, _&&_}
 use mathlib.Core.List.{List, [], _∷_, _++_, map, append-nil}
 use mathlib.Core.Option.{Option, none, some}
-use Prim.Native.Nat.{ℕ, zero, suc, _*_, _≤_}
+use Prim.Native.Nat.{ℕ, zero, suc, _≤_}
 use native.Mathlib.Omega.{arith}
 use lib.IntN.{ℤ, pos}
 use lib.ListN.{length, length-append}
 use Rattle.word.specs.Choose.{choose}
+use Rattle.word.specs.Text.{decimal}
 use Rattle.word.specs.Numeral.{numberOf}
 use Rattle.word.specs.Wrap.{Signed}
 use Rattle.word.proofs.Bool.{never, and-first, and-second}
 use Rattle.program.specs.declared.Command.{Command}
-use Rattle.program.specs.Command.{Opcode, operandOf, operandWidth, inRange, opcode, operand, command}
+use Rattle.program.specs.declared.Operand.{Operand}
+use Rattle.program.specs.declared.Operand.the-variants as Operand
+use Rattle.program.specs.declared.Operand.the-variants.{Counts}
+use Rattle.program.specs.Command.{Opcode, operandOf, width, counts, argumentsOf, resultsOf, isCounts, inRange, opcode, operand, command}
 use Rattle.program.specs.Name.{letters, opcodeNamed}
 use Rattle.program.specs.Decode.{Decoded, refused, accepted, prepend, commandLimit}
 use Rattle.program.specs.Encode.{Fits, Writable, AllWritable}
 use Rattle.program.proofs.Codes.{opcode-command, operand-command}
+use Rattle.program.proofs.Counting.{counts-both, word-range}
 use Rattle.program.proofs.Naming.{name-long}
 use Rattle.program.proofs.Spelling.{letters-named}
 use Rattle.program.proofs.Ranges.{fits-none, none-fits, fits-word, range-fits}
 use Rattle.assembly.specs.Assembly.{newline, space, linesOf, wordsOf, Line, malformed, outside, says}
-use Rattle.assembly.specs.Assembly.{readNumber, readOperands, readNamed, readWords, readLine, readFirst, readFrom, readText}
-use Rattle.assembly.specs.Assembly.{opcodeText, lineText, listing}
+use Rattle.assembly.specs.Assembly.{readNumber, readOne, readCounts, readTwo, readOperands, readNamed, readWords, readLine}
+use Rattle.assembly.specs.Assembly.{readFirst, readFrom, readText}
+use Rattle.assembly.specs.Assembly.{operandText, opcodeText, lineText, listing}
 use Rattle.assembly.specs.Claim.{plainOperand, plainOperands, plainWords, plainLines, ended, Normal}
 use Rattle.assembly.proofs.Numerals.{decimal-plain, plain-decimal}
 use Rattle.assembly.proofs.Cutting.{spaced, words-back, lined, lines-back}
@@ -55,23 +61,58 @@ number-said o (some z) c e = by (inRange o z) refl e
     by true f e = (z, refl, f, cc)
     by false f e = never (cc)
 
-operands-said : (o : Opcode) (k : ℕ) (name : List ℕ) (ws : List (List ℕ)) (c : Command) → operandWidth o ≡ k → letters o ≡ name
-    → readOperands o k ws ≡ says c → Said (name ∷ ws) c
-operands-said o zero name [] c e f r =
-    said-parts o (pos 0) (name ∷ []) c (cc) (none-fits o (pos 0) e refl) (λ p. rw (e, append-nil (letters o)) f)
-operands-said o zero name (w ∷ ws) c e f r = never (cc)
-operands-said o (suc k) name [] c e f r = never (cc)
-operands-said o (suc k) name (w ∷ []) c e f r =
-    let (z, n, i, d) = number-said o (numberOf w) c r in
-    let s = range-fits o z i in
-    said-parts o z (name ∷ w ∷ []) c d s
-    (λ p. rw (e, f, plain-decimal w z n (fits-word o z s) (and-first (plainOperand w) true p)))
-operands-said o (suc k) name (w ∷ v ∷ ws) c e f r = never (cc)
+-- two numbers that are read are the two counts of a word in range
+counts-said : (o : Opcode) (x y : Option ℤ) (c : Command) → operandOf o ≡ Counts → readCounts o x y ≡ says c
+    → (z : ℤ) × (x ≡ some (pos (argumentsOf z))) × (y ≡ some (pos (resultsOf z))) × (inRange o z ≡ true) × (c ≡ command o z)
+counts-said o none y c k e = never (cc)
+counts-said o (some a) none c k e = never (cc)
+counts-said o (some a) (some d) c k e =
+    let (z, n, i, m) = number-said o (some (counts a d)) c e in
+    let l : counts a d ≡ z = cc in
+    let (p, q) = counts-both a d (ap isCounts l ∙ rw k at i) in
+    (z, ap some (p ∙ ap (λ w. pos (argumentsOf w)) l), ap some (q ∙ ap (λ w. pos (resultsOf w)) l), i, m)
+
+module _ (o : Opcode) (name : List ℕ) (c : Command) (f : letters o ≡ name) where
+  -- one number
+  one-said : (ws : List (List ℕ)) → ((z : ℤ) → operandText (operandOf o) z ≡ space ∷ decimal z) → readOne o ws ≡ says c → Said (name ∷ ws) c
+  one-said [] t r = never (cc)
+  one-said (w ∷ []) t r =
+      let (z, n, i, d) = number-said o (numberOf w) c r in
+      let s = range-fits o z i in
+      said-parts o z (name ∷ w ∷ []) c d s
+      (λ p. rw (t z, f, plain-decimal w z n (fits-word o z s) (and-first (plainOperand w) true p)))
+  one-said (w ∷ v ∷ ws) t r = never (cc)
+
+  -- two
+  two-said : (ws : List (List ℕ)) → operandOf o ≡ Counts → readTwo o ws ≡ says c → Said (name ∷ ws) c
+  two-said [] k r = never (cc)
+  two-said (w ∷ []) k r = never (cc)
+  two-said (w ∷ v ∷ []) k r =
+      let (z, m, n, i, d) = counts-said o (numberOf w) (numberOf v) c k r in
+      let s = range-fits o z i in
+      let (g, h) = word-range z (rw k at i) in
+      said-parts o z (name ∷ w ∷ v ∷ []) c d s
+      (λ p. rw (
+        k,
+        f,
+        plain-decimal w (pos (argumentsOf z)) m (omega arith) (and-first (plainOperand w) (plainOperand v && true) p),
+        plain-decimal v (pos (resultsOf z)) n (omega arith)
+            (and-first (plainOperand v) true (and-second (plainOperand w) (plainOperand v && true) p)),
+      ))
+  two-said (w ∷ v ∷ u ∷ ws) k r = never (cc)
+
+  operands-said : (x : Operand) (ws : List (List ℕ)) → operandOf o ≡ x → readOperands o x ws ≡ says c → Said (name ∷ ws) c
+  operands-said (Operand.Signed zero) [] e r =
+      said-parts o (pos 0) (name ∷ []) c (cc) (none-fits o (pos 0) (ap width e) refl) (λ p. rw (e, append-nil (letters o)) f)
+  operands-said (Operand.Signed zero) (w ∷ ws) e r = never (cc)
+  operands-said (Operand.Signed (suc k)) ws e r = one-said ws (λ z. rw e) r
+  operands-said Operand.Page ws e r = one-said ws (λ z. rw e) r
+  operands-said Operand.Counts ws e r = two-said ws e r
 
 named-said : (x : Option Opcode) (name : List ℕ) (ws : List (List ℕ)) (c : Command) → opcodeNamed name ≡ x → readNamed x ws ≡ says c
     → Said (name ∷ ws) c
 named-said none name ws c e r = never (cc)
-named-said (some o) name ws c e r = operands-said o (operandWidth o) name ws c refl (letters-named name o e) r
+named-said (some o) name ws c e r = operands-said o name c (letters-named name o e) (operandOf o) ws refl r
 
 words-said : (ws : List (List ℕ)) (c : Command) → readWords ws ≡ says c → Said ws c
 words-said [] c r = never (cc)
@@ -158,14 +199,18 @@ module _ (text : List ℕ) (cs : List Command) (e : readText text ≡ accepted c
 -- What is listed is normal
 -- ════════════════════════════════════════════════════════════════════════════════════════════
 
-operand-plain : (k : ℕ) (z : ℤ) → Signed 64 z → plainOperands (operandWords k z) ≡ true
-operand-plain zero z h = refl
-operand-plain (suc k) z h = rw (decimal-plain z h)
+operand-plain : (x : Operand) (z : ℤ) → Fits x z → Signed 64 z → plainOperands (operandWords x z) ≡ true
+operand-plain (Operand.Signed zero) z w h = refl
+operand-plain (Operand.Signed (suc k)) z w h = rw (decimal-plain z h)
+operand-plain Operand.Page z w h = rw (decimal-plain z h)
+operand-plain Operand.Counts z w h =
+    let (f, g) = word-range z w in
+    rw (decimal-plain (pos (argumentsOf z)) (omega arith), decimal-plain (pos (resultsOf z)) (omega arith))
 
 text-plain : (c : Command) → Writable c → plainWords (wordsOf (lineText c)) ≡ true
 text-plain c w =
-    let k = operandWidth (opcode c) in
-    rw (text-words (opcode c) k (operand c)) (operand-plain k (operand c) (fits-word (opcode c) (operand c) w))
+    let x = operandOf (opcode c) in
+    rw (text-words (opcode c) x (operand c)) (operand-plain x (operand c) w (fits-word (opcode c) (operand c) w))
 
 texts-plain : (cs : List Command) → AllWritable cs → plainLines (map lineText cs) ≡ true
 texts-plain [] w = refl

@@ -1,221 +1,240 @@
 -- The operand of a command at a position of a text is the one that its line says.
 -- Assumes nothing.
 use mathlib.Core.Path.{_≡_, refl, sym, ap, _∙_}
-use mathlib.Core.Bool.{Bool, true, false, _&&_}
-use mathlib.Core.List.{List, [], _∷_, _++_, append-nil, append-assoc}
-use mathlib.Core.Option.{none}
-use Prim.Native.Nat.{ℕ, suc, _+_}
+use mathlib.Core.Bool.{Bool, true, false}
+use mathlib.Core.List.{List, [], _∷_}
+use mathlib.Core.Option.{Option, none, some}
+use Prim.Native.Nat.{ℕ, zero, suc, _+_, _^_, _≤_}
 use native.Mathlib.Omega.{arith}
-use lib.IntN.{ℤ}
-use lib.Dec.{T, eqb}
+use lib.IntN.{ℤ, pos, negsuc}
 use lib.ListN.{length, drop, getD}
-use borrow.Author.Tests.{eqb-true, eqb-false, ne-eqb}
+use borrow.Author.Tests.{eq-eqb, ne-eqb, le-ltb, ltb-false}
 use Rattle.word.specs.Choose.{choose}
 use Rattle.word.specs.Exact.{isSigned, exactly}
-use Rattle.word.specs.Text.{numeralValue}
-use Rattle.word.specs.Numeral.{isDigit, allDigits, signedBy, digitsNumber, numberOf, leadingDigits, decimalTo, decimalFrom, decimalAt}
+use Rattle.word.specs.Number.{indexOf}
+use Rattle.word.specs.Numeral.{numberOf, decimalTo, decimalAt}
 use Rattle.word.specs.declared.exact.Exact.{Exact}
 use Rattle.word.specs.declared.exact.Exact.the-variants as Exact
+use Rattle.word.specs.declared.number.Index.the-variants as Index
+use Rattle.word.specs.declared.numeral.Decimal.{Decimal}
+use Rattle.word.specs.declared.numeral.Decimal.the-variants.{Is, Beyond, Missing}
 use Rattle.word.proofs.Bool.{never}
-use Rattle.word.proofs.Laws.Reading.{leading-digits}
-use Rattle.program.specs.Command.{Opcode, codeOf, opcodeOf, operandWidth, inRange, command}
+use Rattle.program.specs.declared.Operand.{Operand}
+use Rattle.program.specs.declared.Operand.the-variants.{Signed, Page, Counts}
+use Rattle.program.specs.Command.{Opcode, codeOf, opcodeOf, operandOf, width, operandWidth, counts, inRange, command}
 use Rattle.program.specs.Fetch.{takesOf}
 use Rattle.program.proofs.Codes.{opcodeOf-codeOf, opcode-command, operand-command}
-use Rattle.program.proofs.Naming.{allLetters, letters-append}
+use Rattle.program.proofs.Counting.{arguments-outside, results-outside}
 use Rattle.program.proofs.Ranges.{range-word}
 use Rattle.assembly.specs.declared.line.Line.{Line}
-use Rattle.assembly.specs.declared.line.Line.the-variants.{Malformed, Outside}
-use Rattle.assembly.specs.Assembly.{wordsOf, outside, malformed, says, readNumber, readOperands}
-use Rattle.assembly.specs.Scan.{endsAt, numberAt, firstLine, lineTo}
-use Rattle.assembly.proofs.Numerals.{digits-letters}
-use Rattle.assembly.proofs.Words.{words-some, words-alone, words-space, words-other, line-letters, line-goes}
-use Rattle.assembly.proofs.Words.{After, ends, goes, line-after, drop-after, byte-first}
+use Rattle.assembly.specs.declared.line.Line.the-variants.{Malformed}
+use Rattle.assembly.specs.Assembly.{wordsOf, malformed, outside, says, readNumber, readOne, readTwo, readCounts, readOperands}
+use Rattle.assembly.specs.Scan.{numberAt, spacedAt, counted, countsAfter, operandAt, firstLine, lineTo}
+use Rattle.assembly.proofs.Words.{words-some, drop-after, byte-first}
+use Rattle.assembly.proofs.Number.{Spells, missing, stuck, last, more, spells}
 
 -- ════════════════════════════════════════════════════════════════════════════════════════════
--- Digits
+-- A number after one space
 -- ════════════════════════════════════════════════════════════════════════════════════════════
 
--- a text that begins with no digit
-abbrev NoDigit : List ℕ → Type 0
-NoDigit [] = Unit {0}
-NoDigit (c ∷ r) = isDigit c ≡ false
+module _ (s : List ℕ) (n : ℕ) where
+  spaced-some : (b : List ℕ) → drop n s ≡ 32 ∷ b → spacedAt s n ≡ decimalAt s (n + 1)
+  unfolding spacedAt
+  spaced-some b e = rw (eq-eqb (getD s n 10) 32 (byte-first s n (32 ∷ b) 10 e))
 
-leading-rest : (b : List ℕ) → (r : List ℕ) × ((b ≡ leadingDigits b ++ r) × NoDigit r)
-unfolding leadingDigits
-leading-rest [] = ([], (refl, tt))
-leading-rest (c ∷ b) = by (isDigit c) refl (leading-rest b)
-  where
-    by : (t : Bool) → isDigit c ≡ t → (r : List ℕ) × ((b ≡ leadingDigits b ++ r) × NoDigit r)
-        → (r : List ℕ) × ((c ∷ b ≡ choose t (c ∷ leadingDigits b) [] ++ r) × NoDigit r)
-    by true e h = (h .0, (ap (λ (l : List ℕ). c ∷ l) (h .1 .0), h .1 .1))
-    by false e h = (c ∷ b, (refl, e))
+  spaced-none : (getD s n 10 ≡ 32 → ⊥) → spacedAt s n ≡ Missing
+  unfolding spacedAt
+  spaced-none h = rw (ne-eqb (getD s n 10) 32 h)
 
-digits-not : (ds : List ℕ) (c : ℕ) (w : List ℕ) → isDigit c ≡ false → allDigits (ds ++ c ∷ w) ≡ false
-digits-not [] c w e = rw e
-digits-not (d ∷ ds) c w e = by (isDigit d) (digits-not ds c w e)
-  where
-    by : (t : Bool) → allDigits (ds ++ c ∷ w) ≡ false → (t && allDigits (ds ++ c ∷ w)) ≡ false
-    by true h = h
-    by false h = refl
-
--- they are no number before anything else
-number-not : (minus : Bool) (ds : List ℕ) (c : ℕ) (w : List ℕ) → isDigit c ≡ false → digitsNumber minus (ds ++ c ∷ w) ≡ none
-number-not minus [] c w e = rw e
-number-not minus (d ∷ ds) c w e = rw (digits-not (d ∷ ds) c w e)
+  -- where there is no space, there is no operand
+  pub operand-missing : (getD s n 10 ≡ 32 → ⊥) → (x : Operand) → operandAt s n x ≡ Missing
+  operand-missing h (Signed k) = spaced-none h
+  operand-missing h Page = spaced-none h
+  operand-missing h Counts = ap (countsAfter s) (spaced-none h)
 
 -- ════════════════════════════════════════════════════════════════════════════════════════════
--- A number that the line ends after, or does not
+-- A command's number that the line ends after, or does not
 -- ════════════════════════════════════════════════════════════════════════════════════════════
 
-module _ (s : List ℕ) (o : Opcode) (k : ℕ) (width : operandWidth o ≡ suc k) where
-  exact-line : (z : ℤ) (next : ℕ) → getD s next 10 ≡ 10
-      → numberAt s (codeOf o) (suc k + 1) (decimalTo next (exactly z))
-      ≡ lineTo (next + 1) (choose (inRange o z) (says (command o z)) outside)
-  unfolding exactly
-  exact-line z next e = by (isSigned 64 z) (inRange o z) refl refl
+-- the position after a number
+abbrev NextIs : ℕ → Decimal → Type 0
+NextIs next Missing = Unit {0}
+NextIs next (Beyond i) = i ≡ next
+NextIs next (Is z i) = i ≡ next
+
+next-is : (next : ℕ) (x : Exact) → NextIs next (decimalTo next x)
+next-is next (Exact.Number z) = refl
+next-is next Exact.Outside = refl
+
+next-counted : (next : ℕ) (a : ℤ) (d : Decimal) → NextIs next d → NextIs next (counted a d)
+next-counted next a Missing n = tt
+next-counted next a (Beyond i) n = n
+next-counted next a (Is z i) n = n
+
+module _ (s : List ℕ) (o : Opcode) (k : ℕ) (wide : operandWidth o ≡ suc k) where
+  abbrev lineBy : Decimal → Line
+  lineBy d = numberAt s (codeOf o) (suc k + 1) d
+
+  is-line : (z : ℤ) (next : ℕ) → getD s next 10 ≡ 10 → lineBy (Is z next) ≡ lineTo (next + 1) (readNumber o (some z))
+  is-line z next e = by (inRange o z) refl
     where
-      by : (b r : Bool) → isSigned 64 z ≡ b → inRange o z ≡ r
-          → numberAt s (codeOf o) (suc k + 1) (decimalTo next (choose b (Exact.Number z) Exact.Outside))
-          ≡ lineTo (next + 1) (choose r (says (command o z)) outside)
-      by true true f g =
-          rw (opcodeOf-codeOf o, g, e, opcode-command o z, operand-command o z (λ w. absurd (omega arith)), width)
-      by true false f g = rw (opcodeOf-codeOf o, g, e)
-      by false true f g = never (let t = range-word o z g in cc)
-      by false false f g = rw e
+      by : (r : Bool) → inRange o z ≡ r → lineBy (Is z next) ≡ lineTo (next + 1) (choose r (says (command o z)) outside)
+      by true g = rw (opcodeOf-codeOf o, g, e, opcode-command o z, operand-command o z (λ w. absurd (omega arith)), wide)
+      by false g = rw (opcodeOf-codeOf o, g, e)
 
-  number-ends : (minus : Bool) (p : ℕ) (ds : List ℕ) → allDigits ds ≡ true → getD s (p + length ds) 10 ≡ 10
-      → numberAt s (codeOf o) (suc k + 1) (decimalFrom minus p ds) ≡ lineTo (p + length ds + 1) (readNumber o (digitsNumber minus ds))
-  number-ends minus p [] d e = refl
-  number-ends minus p (c ∷ ds) d e = rw d (exact-line (signedBy minus (numeralValue 10 (c ∷ ds))) (p + length (c ∷ ds)) e)
+  beyond-line : (z : ℤ) (next : ℕ) → getD s next 10 ≡ 10 → inRange o z ≡ false
+      → lineBy (Beyond next) ≡ lineTo (next + 1) (readNumber o (some z))
+  beyond-line z next e g = rw (g, e)
 
-  ends-not : (next : ℕ) (line : Line) → (getD s next 10 ≡ 10 → ⊥) → endsAt s next line ≡ Malformed
-  ends-not next line h = rw (ne-eqb (getD s next 10) 10 h)
-
-  exact-goes : (next : ℕ) (x : Exact) → (getD s next 10 ≡ 10 → ⊥) → numberAt s (codeOf o) (suc k + 1) (decimalTo next x) ≡ Malformed
-  exact-goes next Exact.Outside h = ends-not next Outside h
-  exact-goes next (Exact.Number z) h =
-      rw (ne-eqb (getD s next 10) 10 h) (by (takesOf (opcodeOf (codeOf o)) z))
+  goes-line : (d : Decimal) (next : ℕ) → NextIs next d → (getD s next 10 ≡ 10 → ⊥) → lineBy d ≡ Malformed
+  goes-line Missing next n h = refl
+  goes-line (Beyond i) next n h = rw (n, ne-eqb (getD s next 10) 10 h)
+  goes-line (Is z i) next n h = rw (n, ne-eqb (getD s next 10) 10 h) (by (takesOf (opcodeOf (codeOf o)) z))
     where
       by : (t : Bool) → choose t Malformed Malformed ≡ Malformed
       by true = refl
       by false = refl
 
-  number-goes : (minus : Bool) (p : ℕ) (ds : List ℕ) → (getD s (p + length ds) 10 ≡ 10 → ⊥)
-      → numberAt s (codeOf o) (suc k + 1) (decimalFrom minus p ds) ≡ Malformed
-  number-goes minus p [] h = refl
-  number-goes minus p (c ∷ ds) h = exact-goes (p + length (c ∷ ds)) (exactly (signedBy minus (numeralValue 10 (c ∷ ds)))) h
+  -- one number
+  one-exact : (z : ℤ) (next : ℕ) → getD s next 10 ≡ 10 → lineBy (decimalTo next (exactly z)) ≡ lineTo (next + 1) (readNumber o (some z))
+  unfolding exactly
+  one-exact z next e = by (isSigned 64 z) refl
+    where
+      no : isSigned 64 z ≡ false → (r : Bool) → inRange o z ≡ r → r ≡ false
+      no f true g = never (let t = range-word o z g in cc)
+      no f false g = refl
+
+      by : (t : Bool) → isSigned 64 z ≡ t
+          → lineBy (decimalTo next (choose t (Exact.Number z) Exact.Outside)) ≡ lineTo (next + 1) (readNumber o (some z))
+      by true f = is-line z next e
+      by false f = beyond-line z next e (no f (inRange o z) refl)
+
+  one-none : (w : List ℕ) → numberOf w ≡ none → (ws : List (List ℕ)) → readOne o (w ∷ ws) ≡ malformed
+  one-none w n [] = rw n
+  one-none w n (v ∷ vs) = refl
+
+  one-line : (p : ℕ) (b : List ℕ) → Spells s p b
+      → lineBy (decimalAt s p) ≡ lineTo (p + length (firstLine b) + 1) (readOne o (wordsOf (firstLine b)))
+  one-line p b (missing e w ws l n) = rw (e, l, one-none w n ws)
+  one-line p b (stuck next x e f g w ws l n) =
+      ap lineBy e ∙ goes-line (decimalTo next x) next (next-is next x) f ∙ sym (rw (l, one-none w n ws))
+  one-line p b (last z next e g w l n i) = ap lineBy e ∙ one-exact z next g ∙ sym (rw (l, n, i))
+  one-line p b (more z next e rest g w l n i) =
+      let k = byte-first s next (32 ∷ rest) 10 g in
+      let (u, (us, q)) = words-some (firstLine rest) in
+      ap lineBy e ∙ goes-line (decimalTo next (exactly z)) next (next-is next (exactly z)) (λ t. omega arith) ∙ sym (rw (l, q))
 
 -- ════════════════════════════════════════════════════════════════════════════════════════════
--- The words of the line
+-- Two counts
 -- ════════════════════════════════════════════════════════════════════════════════════════════
 
--- a sign before a text: what the words are that begin as the text does
-abbrev Signs : List ℕ → Bool → List ℕ → Type 0
-Signs sign minus b = (w : List ℕ) → (getD w 0 0 ≡ 45 → getD b 0 0 ≡ 45) → numberOf (sign ++ w) ≡ digitsNumber minus w
+-- what is beyond the words is beyond the counts
+index-beyond : (z : ℤ) (n : ℕ) → n ≤ 2 ^ 63 → isSigned 64 z ≡ false → indexOf z n ≡ Index.Outside
+unfolding indexOf
+index-beyond (pos m) n h f = rw (le-ltb m n (omega (arith, ltb-false m (2 ^ 63) f)))
+index-beyond (negsuc m) n h f = refl
 
-module _ (o : Opcode) (k : ℕ) (sign : List ℕ) (minus : Bool) (ds : List ℕ) (t : T (allLetters (sign ++ ds))) where
-  operands-space : (y : List ℕ) → readOperands o (suc k) (wordsOf (sign ++ ds ++ 32 ∷ y)) ≡ malformed
-  operands-space y = let e = words-some y .1 .1 in rw (words-space (sign ++ ds) t y, e)
-
-  operands-other : (c : ℕ) (y : List ℕ) → (c ≡ 32 → ⊥) → isDigit c ≡ false
-      → ((w : List ℕ) → numberOf (sign ++ (ds ++ c ∷ w)) ≡ digitsNumber minus (ds ++ c ∷ w))
-      → readOperands o (suc k) (wordsOf (sign ++ ds ++ c ∷ y)) ≡ malformed
-  operands-other c y h d law =
-      let (w, (ws, e)) = words-other (sign ++ ds) t c y h in
-      rw e (by w ws)
+module _ (s : List ℕ) where
+  -- the first count, or −1 for what is beyond the words: with either the word of the two is the same
+  first-count : (z : ℤ) (next : ℕ)
+      → (a : ℤ) × (countsAfter s (decimalTo next (exactly z)) ≡ counted a (spacedAt s next)) × ((d : ℤ) → counts a d ≡ counts z d)
+  unfolding exactly
+  first-count z next = by (isSigned 64 z) refl
     where
-      by : (w : List ℕ) (ws : List (List ℕ)) → readOperands o (suc k) ((sign ++ ds ++ c ∷ w) ∷ ws) ≡ malformed
-      by w [] = rw (append-assoc sign ds (c ∷ w), law w, number-not minus ds c w d)
-      by w (v ∷ vs) = refl
+      by : (t : Bool) → isSigned 64 z ≡ t
+          → (a : ℤ) × (countsAfter s (decimalTo next (choose t (Exact.Number z) Exact.Outside)) ≡ counted a (spacedAt s next))
+          × ((d : ℤ) → counts a d ≡ counts z d)
+      by true f = (z, refl, λ d. refl)
+      by false f = (negsuc 0, refl, λ d. arguments-outside z d (index-beyond z 16 (omega arith) f))
 
-  operands-goes : (c : ℕ) (y : List ℕ) → isDigit c ≡ false
-      → ((w : List ℕ) → numberOf (sign ++ (ds ++ c ∷ w)) ≡ digitsNumber minus (ds ++ c ∷ w))
-      → readOperands o (suc k) (wordsOf (sign ++ (ds ++ c ∷ y))) ≡ malformed
-  operands-goes c y d law = rw (sym (append-assoc sign ds (c ∷ y))) (by (eqb c 32) refl)
+  -- without the second there is no word
+  second-missing : (next : ℕ) (x : Exact) → (getD s next 10 ≡ 32 → ⊥) → countsAfter s (decimalTo next x) ≡ Missing
+  second-missing next (Exact.Number z) h = ap (counted z) (spaced-none s next h)
+  second-missing next Exact.Outside h = ap (counted (negsuc 0)) (spaced-none s next h)
+
+-- words that are no two counts
+module _ (o : Opcode) (w : List ℕ) where
+  two-first : numberOf w ≡ none → (ws : List (List ℕ)) → readTwo o (w ∷ ws) ≡ malformed
+  two-first n [] = refl
+  two-first n (v ∷ []) = rw n
+  two-first n (v ∷ u ∷ us) = refl
+
+  two-second : (v : List ℕ) → numberOf v ≡ none → (ws : List (List ℕ)) → readTwo o (w ∷ v ∷ ws) ≡ malformed
+  two-second v n [] = rw n (by (numberOf w))
     where
-      by : (b : Bool) → eqb c 32 ≡ b → readOperands o (suc k) (wordsOf (sign ++ ds ++ c ∷ y)) ≡ malformed
-      by true e = rw (eqb-true c 32 e) (operands-space y)
-      by false e = operands-other c y (eqb-false c 32 e) d law
+      by : (x : Option ℤ) → readCounts o x none ≡ malformed
+      by none = refl
+      by (some a) = refl
+  two-second v n (u ∷ us) = refl
 
-starts-as : (ds : List ℕ) (c : ℕ) (w y : List ℕ) → getD (ds ++ c ∷ w) 0 0 ≡ getD (ds ++ c ∷ y) 0 0
-starts-as [] c w y = refl
-starts-as (d ∷ ds) c w y = refl
+module _ (s : List ℕ) (o : Opcode) (kind : operandOf o ≡ Counts) where
+  wide : operandWidth o ≡ 2
+  wide = ap width kind
 
-starts-with : (ds r : List ℕ) → getD ds 0 0 ≡ 45 → getD (ds ++ r) 0 0 ≡ 45
-starts-with [] r e = absurd (omega arith)
-starts-with (d ∷ ds) r e = e
+  no-word : (z : ℤ) → negsuc 0 ≡ z → inRange o z ≡ false
+  no-word z e = rw (← e, kind)
 
-module _ (s : List ℕ) (o : Opcode) (k : ℕ) (width : operandWidth o ≡ suc k) where
-  operand-digits : (sign : List ℕ) (minus : Bool) (p : ℕ) (b ds r : List ℕ) → T (allLetters sign) → allDigits ds ≡ true → NoDigit r
-      → drop p s ≡ b → b ≡ ds ++ r → Signs sign minus b
-      → numberAt s (codeOf o) (suc k + 1) (decimalFrom minus p ds)
-      ≡ lineTo (p + length (firstLine b) + 1) (readOperands o (suc k) (wordsOf (sign ++ firstLine b)))
-  operand-digits sign minus p b ds r t d n e q law = by (line-after r)
+  two-exact : (z a y : ℤ) (next : ℕ) → counts a y ≡ counts z y → getD s next 10 ≡ 10
+      → lineBy s o 1 wide (counted a (decimalTo next (exactly y))) ≡ lineTo (next + 1) (readNumber o (some (counts z y)))
+  unfolding exactly
+  two-exact z a y next same e = by (isSigned 64 y) refl
     where
-      both : T (allLetters (sign ++ ds))
-      both = letters-append sign ds t (digits-letters ds d)
+      by : (t : Bool) → isSigned 64 y ≡ t
+          → lineBy s o 1 wide (counted a (decimalTo next (choose t (Exact.Number y) Exact.Outside)))
+          ≡ lineTo (next + 1) (readNumber o (some (counts z y)))
+      by true f = is-line s o 1 wide (counts a y) next e ∙ ap (λ (i : ℤ). lineTo (next + 1) (readNumber o (some i))) same
+      by false f =
+          beyond-line s o 1 wide (counts z y) next e (no-word (counts z y) (results-outside z y (index-beyond y 2 (omega arith) f)))
 
-      next : (x : ℕ) → getD s (p + length ds) x ≡ getD r 0 x
-      next x = byte-first s (p + length ds) r x (drop-after s p ds r (e ∙ q))
+  second-goes : (a : ℤ) (next : ℕ) (x : Exact) → (getD s next 10 ≡ 10 → ⊥) → lineBy s o 1 wide (counted a (decimalTo next x)) ≡ Malformed
+  second-goes a next x h =
+      goes-line s o 1 wide (counted a (decimalTo next x)) next (next-counted next a (decimalTo next x) (next-is next x)) h
 
-      line : firstLine b ≡ ds ++ firstLine r
-      line = ap firstLine q ∙ line-letters ds r (digits-letters ds d)
+  -- after the first count z, which the word w is
+  second-line : (z a : ℤ) (w : List ℕ) → ((d : ℤ) → counts a d ≡ counts z d) → numberOf w ≡ some z → (p : ℕ) (b : List ℕ) → Spells s p b
+      → lineBy s o 1 wide (counted a (decimalAt s p))
+      ≡ lineTo (p + length (firstLine b) + 1) (readTwo o (w ∷ wordsOf (firstLine b)))
+  second-line z a w same m p b (missing e v vs l n) = rw (e, l, two-second o w v n vs)
+  second-line z a w same m p b (stuck next x e f g v vs l n) =
+      ap (λ d. lineBy s o 1 wide (counted a d)) e ∙ second-goes a next x f ∙ sym (rw (l, two-second o w v n vs))
+  second-line z a w same m p b (last y next e g v l n i) =
+      ap (λ d. lineBy s o 1 wide (counted a d)) e ∙ two-exact z a y next (same y) g ∙ sym (rw (l, m, n, i))
+  second-line z a w same m p b (more y next e rest g v l n i) =
+      let k = byte-first s next (32 ∷ rest) 10 g in
+      let (u, (us, q)) = words-some (firstLine rest) in
+      ap (λ d. lineBy s o 1 wide (counted a d)) e ∙ second-goes a next (exactly y) (λ t. omega arith) ∙ sym (rw (l, q))
 
-      by : After r → numberAt s (codeOf o) (suc k + 1) (decimalFrom minus p ds)
-          ≡ lineTo (p + length (firstLine b) + 1) (readOperands o (suc k) (wordsOf (sign ++ firstLine b)))
-      by (ends f g) =
-          let l : firstLine b ≡ ds = line ∙ ap (λ (x : List ℕ). ds ++ x) f ∙ append-nil ds in
-          rw (l, words-alone (sign ++ ds) both, law ds (λ h. ap (λ (x : List ℕ). getD x 0 0) q ∙ starts-with ds r h))
-          (number-ends s o k width minus p ds d (next 10 ∙ g))
-      by (goes c rest f h) =
-          let l : firstLine b ≡ ds ++ c ∷ firstLine rest =
-          line ∙ ap (λ (x : List ℕ). ds ++ x) (ap firstLine f ∙ line-goes c rest h) in
-          let m : (w : List ℕ) → getD (ds ++ c ∷ w) 0 0 ≡ getD b 0 0 =
-          λ w. starts-as ds c w rest ∙ ap (λ (x : List ℕ). getD x 0 0) (ap (λ (x : List ℕ). ds ++ x) (sym f) ∙ sym q) in
-          let g : getD r 0 10 ≡ c = ap (λ (x : List ℕ). getD x 0 10) f in
-          number-goes s o k width minus p ds (λ x. h (sym g ∙ sym (next 10) ∙ x))
-          ∙ sym (rw (l, operands-goes o k sign minus ds both c (firstLine rest) (rw f at n) (λ w. law (ds ++ c ∷ w) (λ x. sym (m w) ∙ x))))
+  first-line : (p : ℕ) (b : List ℕ) → Spells s p b
+      → lineBy s o 1 wide (countsAfter s (decimalAt s p)) ≡ lineTo (p + length (firstLine b) + 1) (readTwo o (wordsOf (firstLine b)))
+  first-line p b (missing e w ws l n) = rw (e, l, two-first o w n ws)
+  first-line p b (stuck next x e f g w ws l n) =
+      ap (λ d. lineBy s o 1 wide (countsAfter s d)) e
+      ∙ ap (lineBy s o 1 wide) (second-missing s next x g)
+      ∙ sym (rw (l, two-first o w n ws))
+  first-line p b (last z next e g w l n i) =
+      ap (λ d. lineBy s o 1 wide (countsAfter s d)) e
+      ∙ ap (lineBy s o 1 wide) (second-missing s next (exactly z) (λ t. omega arith))
+      ∙ sym (rw l)
+  first-line p b (more z next e rest g w l n i) =
+      let (a, q, same) = first-count s z next in
+      ap (λ d. lineBy s o 1 wide (countsAfter s d)) e
+      ∙ ap (lineBy s o 1 wide) (q ∙ ap (counted a) (spaced-some s next rest g))
+      ∙ second-line z a w same n (next + 1) rest (spells s (next + 1) rest (drop-after s next (32 ∷ []) rest g))
+      ∙ sym (rw (l, i))
 
-  operand-signed : (sign : List ℕ) (minus : Bool) (p : ℕ) (b : List ℕ) → T (allLetters sign) → drop p s ≡ b → Signs sign minus b
-      → numberAt s (codeOf o) (suc k + 1) (decimalFrom minus p (leadingDigits b))
-      ≡ lineTo (p + length (firstLine b) + 1) (readOperands o (suc k) (wordsOf (sign ++ firstLine b)))
-  operand-signed sign minus p b t e law =
-      let (r, (q, n)) = leading-rest b in
-      operand-digits sign minus p b (leadingDigits b) r t (leading-digits b) n e q law
+-- ════════════════════════════════════════════════════════════════════════════════════════════
+-- The operand after the space, by its kind
+-- ════════════════════════════════════════════════════════════════════════════════════════════
 
-  operand-minus : (p : ℕ) (b : List ℕ) → drop p s ≡ 45 ∷ b
-      → numberAt s (codeOf o) (suc k + 1) (decimalFrom true (p + 1) (leadingDigits (drop (p + 1) s)))
-      ≡ lineTo (p + length (firstLine (45 ∷ b)) + 1) (readOperands o (suc k) (wordsOf (firstLine (45 ∷ b))))
-  unfolding numberOf
-  operand-minus p b e =
-      let f : drop (p + 1) s ≡ b = drop-after s p (45 ∷ []) b e in
-      let n : p + suc (length (firstLine b)) + 1 ≡ p + 1 + length (firstLine b) + 1 = omega arith in
-      rw (f, line-goes 45 b (λ x. omega arith), n) (operand-signed (45 ∷ []) true (p + 1) b tt f (λ w h. refl))
+module _ (s : List ℕ) (o : Opcode) (n : ℕ) (b : List ℕ) (space : drop n s ≡ 32 ∷ b) where
+  spelt : Spells s (n + 1) b
+  spelt = spells s (n + 1) b (drop-after s n (32 ∷ []) b space)
 
-  operand-plus : (p : ℕ) (b : List ℕ) → drop p s ≡ b → (getD b 0 0 ≡ 45 → ⊥)
-      → numberAt s (codeOf o) (suc k + 1) (decimalFrom false p (leadingDigits (drop p s)))
-      ≡ lineTo (p + length (firstLine b) + 1) (readOperands o (suc k) (wordsOf (firstLine b)))
-  unfolding numberOf
-  operand-plus p b e h = rw e (operand-signed [] false p b tt e law)
-    where
-      law : Signs [] false b
-      law [] g = refl
-      law (c ∷ w) g = rw (ne-eqb c 45 (λ x. h (g x)))
-
-  -- the number at a position is what the words of the line that begins there say
-  pub operand-line : (p : ℕ) (b : List ℕ) → drop p s ≡ b
-      → numberAt s (codeOf o) (suc k + 1) (decimalAt s p)
-      ≡ lineTo (p + length (firstLine b) + 1) (readOperands o (suc k) (wordsOf (firstLine b)))
-  unfolding decimalAt
-  operand-line p b e = by (eqb (getD s p 0) 45) refl b e
-    where
-      by : (t : Bool) → eqb (getD s p 0) 45 ≡ t → (b : List ℕ) → drop p s ≡ b
-          → numberAt s (codeOf o) (suc k + 1) (choose t (decimalFrom true (p + 1) (leadingDigits (drop (p + 1) s)))
-          (decimalFrom false p (leadingDigits (drop p s))))
-          ≡ lineTo (p + length (firstLine b) + 1) (readOperands o (suc k) (wordsOf (firstLine b)))
-      by true f [] e = absurd (omega (arith, byte-first s p [] 0 e, eqb-true (getD s p 0) 45 f))
-      by true f (c ∷ b) e =
-          let m : c ≡ 45 = omega (arith, byte-first s p (c ∷ b) 0 e, eqb-true (getD s p 0) 45 f) in
-          rw m (operand-minus p b (rw m at e))
-      by false f [] e = operand-plus p [] e (λ x. omega arith)
-      by false f (c ∷ b) e = operand-plus p (c ∷ b) e (λ x. eqb-false (getD s p 0) 45 f (byte-first s p (c ∷ b) 0 e ∙ x))
+  -- what is read there is what the words of the line that begins there say
+  pub operand-line : (x : Operand) → operandOf o ≡ x → (width x ≡ 0 → ⊥)
+      → numberAt s (codeOf o) (width x + 1) (operandAt s n x)
+      ≡ lineTo (n + 1 + length (firstLine b) + 1) (readOperands o x (wordsOf (firstLine b)))
+  operand-line (Signed zero) e h = absurd (h refl)
+  operand-line (Signed (suc k)) e h = rw (spaced-some s n b space) (one-line s o k (ap width e) (n + 1) b spelt)
+  operand-line Page e h = rw (spaced-some s n b space) (one-line s o 0 (ap width e) (n + 1) b spelt)
+  operand-line Counts e h = rw (spaced-some s n b space) (first-line s o e (n + 1) b spelt)

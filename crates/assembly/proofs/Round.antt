@@ -5,18 +5,21 @@ use mathlib.Core.Bool.{true}
 use mathlib.Core.List.{List, [], _∷_, _++_, map, append-nil}
 use Prim.Native.Nat.{ℕ, zero, suc, _≤_}
 use native.Mathlib.Omega.{arith}
-use lib.IntN.{ℤ}
+use lib.IntN.{ℤ, pos}
 use lib.ListN.{length}
 use Rattle.word.specs.Text.{decimal}
 use Rattle.program.specs.declared.Command.{Command}
-use Rattle.program.specs.Command.{Opcode, operandOf, operandWidth, opcode, operand, command}
+use Rattle.program.specs.declared.Operand.{Operand}
+use Rattle.program.specs.declared.Operand.the-variants.{Signed, Page, Counts}
+use Rattle.program.specs.Command.{Opcode, operandOf, width, operandWidth, isCounts, argumentsOf, resultsOf, opcode, operand, command}
 use Rattle.program.specs.Name.{letters}
 use Rattle.program.specs.Decode.{accepted, commandLimit}
 use Rattle.program.specs.Encode.{Fits, Writable, AllWritable}
 use Rattle.program.proofs.Codes.{command-whole}
+use Rattle.program.proofs.Counting.{word-range, word-counts}
 use Rattle.program.proofs.Spelling.{named-letters}
 use Rattle.program.proofs.Ranges.{fits-none, fits-word, fits-range}
-use Rattle.assembly.specs.Assembly.{newline, space, cut, linesOf, wordsOf, says, readOperands, readLine}
+use Rattle.assembly.specs.Assembly.{newline, space, cut, linesOf, wordsOf, says, readOne, readOperands, readLine}
 use Rattle.assembly.specs.Assembly.{readFrom, readText, operandText, lineText, listing}
 use Rattle.assembly.proofs.Numerals.{decimal-letters, number-decimal}
 use Rattle.assembly.proofs.Cutting.{without, without-append, without-letters, cut-first, cut-word}
@@ -31,42 +34,80 @@ decimal-without : (separator : ℕ) (z : ℤ) → separator ≤ 32 → without s
 decimal-without separator z h = without-letters separator (decimal z) h (decimal-letters z)
 
 -- the words after the name
-abbrev pub operandWords : ℕ → ℤ → List (List ℕ)
-operandWords zero z = []
-operandWords (suc k) z = decimal z ∷ []
+abbrev pub operandWords : Operand → ℤ → List (List ℕ)
+operandWords (Signed zero) z = []
+operandWords (Signed (suc k)) z = decimal z ∷ []
+operandWords Page z = decimal z ∷ []
+operandWords Counts z = decimal (pos (argumentsOf z)) ∷ decimal (pos (resultsOf z)) ∷ []
 
-pub text-words : (o : Opcode) (k : ℕ) (z : ℤ) → wordsOf (letters o ++ operandText k z) ≡ letters o ∷ operandWords k z
-text-words o zero z = rw (append-nil (letters o)) (cut-word space (letters o) (letters-without space o (omega arith)))
-text-words o (suc k) z =
-    cut-first space ([] ∷ []) (letters o) (decimal z) (letters-without space o (omega arith))
-    ∙ ap (λ (ws : List (List ℕ)). letters o ∷ ws) (cut-word space (decimal z) (decimal-without space z (omega arith)))
+number-words : (z : ℤ) → wordsOf (decimal z) ≡ decimal z ∷ []
+number-words z = cut-word space (decimal z) (decimal-without space z (omega arith))
 
-words-read : (o : Opcode) (k : ℕ) (z : ℤ) → operandWidth o ≡ k → Fits (operandOf o) z
-    → readOperands o k (operandWords k z) ≡ says (command o z)
-words-read o zero z e w = rw (fits-none o z e w)
-words-read o (suc k) z e w = rw (number-decimal z (fits-word o z w), fits-range o z k e w)
+pub text-words : (o : Opcode) (x : Operand) (z : ℤ) → wordsOf (letters o ++ operandText x z) ≡ letters o ∷ operandWords x z
+text-words o x z = by x
+  where
+    -- words after the name
+    after : (t : List ℕ) (ws : List (List ℕ)) → wordsOf t ≡ ws → wordsOf (letters o ++ space ∷ t) ≡ letters o ∷ ws
+    after t ws e =
+        cut-first space ([] ∷ []) (letters o) t (letters-without space o (omega arith)) ∙ ap (λ (l : List (List ℕ)). letters o ∷ l) e
+
+    by : (x : Operand) → wordsOf (letters o ++ operandText x z) ≡ letters o ∷ operandWords x z
+    by (Signed zero) = rw (append-nil (letters o)) (cut-word space (letters o) (letters-without space o (omega arith)))
+    by (Signed (suc k)) = after (decimal z) _ (number-words z)
+    by Page = after (decimal z) _ (number-words z)
+    by Counts =
+        let a = decimal (pos (argumentsOf z)) in
+        let d = decimal (pos (resultsOf z)) in
+        after (a ++ space ∷ d) _
+        (cut-first space ([] ∷ []) a d (decimal-without space (pos (argumentsOf z)) (omega arith))
+        ∙ ap (λ (ws : List (List ℕ)). a ∷ ws) (number-words (pos (resultsOf z))))
+
+-- an operand that fits has at least one number, of at most 64 bits, and is in range
+module _ (o : Opcode) (z : ℤ) (w : Fits (operandOf o) z) where
+  one-read : (k : ℕ) → operandWidth o ≡ suc k → readOne o (decimal z ∷ []) ≡ says (command o z)
+  one-read k e = rw (number-decimal z (fits-word o z w), fits-range o z k e w)
+
+  words-read : (x : Operand) → operandOf o ≡ x → readOperands o x (operandWords x z) ≡ says (command o z)
+  words-read (Signed zero) e = rw (fits-none o z (ap width e) w)
+  words-read (Signed (suc k)) e = one-read k (ap width e)
+  words-read Page e = one-read 0 (ap width e)
+  words-read Counts e =
+      let i : isCounts z ≡ true = rw e at w in
+      let (f, g) = word-range z i in
+      rw (
+        number-decimal (pos (argumentsOf z)) (omega arith),
+        number-decimal (pos (resultsOf z)) (omega arith),
+        word-counts z i,
+        fits-range o z 1 (ap width e) w,
+      )
 
 -- the line of a command is read as the command
 pub line-read : (c : Command) → Writable c → readLine (lineText c) ≡ says c
 line-read c w =
     let o = opcode c in
     let z = operand c in
-    let k = operandWidth o in
-    rw (text-words o k z, named-letters o) (words-read o k z refl w ∙ ap says (command-whole c))
+    let x = operandOf o in
+    rw (text-words o x z, named-letters o) (words-read o z w x refl ∙ ap says (command-whole c))
 
 -- ════════════════════════════════════════════════════════════════════════════════════════════
 -- A text
 -- ════════════════════════════════════════════════════════════════════════════════════════════
 
-operand-lineless : (k : ℕ) (z : ℤ) → without newline (operandText k z) ≡ true
-operand-lineless zero z = refl
-operand-lineless (suc k) z = decimal-without newline z (omega arith)
+operand-lineless : (x : Operand) (z : ℤ) → without newline (operandText x z) ≡ true
+operand-lineless (Signed zero) z = refl
+operand-lineless (Signed (suc k)) z = decimal-without newline z (omega arith)
+operand-lineless Page z = decimal-without newline z (omega arith)
+operand-lineless Counts z =
+    let a = pos (argumentsOf z) in
+    let d = pos (resultsOf z) in
+    without-append newline (space ∷ decimal a) (space ∷ decimal d) (decimal-without newline a (omega arith))
+    (decimal-without newline d (omega arith))
 
 pub line-lineless : (c : Command) → without newline (lineText c) ≡ true
 line-lineless c =
     let o = opcode c in
-    without-append newline (letters o) (operandText (operandWidth o) (operand c)) (letters-without newline o (omega arith))
-    (operand-lineless (operandWidth o) (operand c))
+    without-append newline (letters o) (operandText (operandOf o) (operand c)) (letters-without newline o (omega arith))
+    (operand-lineless (operandOf o) (operand c))
 
 pub listing-lines : (cs : List Command) → linesOf (listing cs) ≡ map lineText cs
 unfolding listing cut

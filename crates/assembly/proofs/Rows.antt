@@ -8,7 +8,7 @@ use Prim.Native.Nat.{ℕ, zero, suc, _+_, _≤_}
 use lib.Dec.{leb, leb→le}
 use lib.ListN.{length}
 use Rattle.program.specs.declared.Operand.{Operand}
-use Rattle.program.specs.declared.Operand.the-variants.{Signed, Page}
+use Rattle.program.specs.declared.Operand.the-variants.{Signed, Page, Counts}
 use Rattle.program.specs.Command.{Opcode, operandOf}
 use Rattle.program.specs.Name.{letters}
 use Rattle.program.specs.Fetch.{shapeOf}
@@ -25,11 +25,13 @@ pub shape-few : (x : Option Opcode) → Few (shapeOf x)
 shape-few none = tt
 shape-few (some o) = width-most o
 
--- the most that an operand takes in a line: a space, a minus and 19 digits; a space and the two digits of a page
+-- the most that an operand takes in a line: a space, a minus and 19 digits; a space and the two digits of a page, and so each
+-- of two counts
 abbrev pub operandMost : Operand → ℕ
 operandMost (Signed zero) = 0
 operandMost (Signed (suc k)) = 21
 operandMost Page = 3
+operandMost Counts = 6
 
 -- a line has at most 25 characters before its newline: a computed test of the list of opcodes
 pub line-most : (o : Opcode) → length (letters o) + operandMost (operandOf o) ≤ 25

@@ -14,7 +14,10 @@ use borrow.Author.Tests.{le-leb, lt-leb, leb-true, leb-false, eqb-true, eqb-fals
 use Rattle.word.specs.Choose.{choose}
 use Rattle.word.specs.Field.{Bytes}
 use Rattle.word.proofs.Bool.{and-left, and-intro}
-use Rattle.program.specs.Command.{Opcode, opcodeOf, codeOf, operandWidth}
+use Rattle.word.specs.declared.numeral.Decimal.the-variants.{Missing}
+use Rattle.program.specs.declared.Operand.{Operand}
+use Rattle.program.specs.declared.Operand.the-variants.{Signed, Page, Counts}
+use Rattle.program.specs.Command.{Opcode, opcodeOf, codeOf, operandOf, width, operandWidth}
 use Rattle.program.specs.Fetch.{shapeOf}
 use Rattle.program.specs.Name.{opcodeNamed, packed, codeOr, codeNamed}
 use Rattle.program.proofs.Codes.{opcode-command, operand-command}
@@ -25,10 +28,11 @@ use Rattle.assembly.specs.declared.line.Line.{Line}
 use Rattle.assembly.specs.declared.line.Line.the-variants.{Is, Malformed}
 use Rattle.assembly.specs.declared.line.Letters.{Letters}
 use Rattle.assembly.specs.Assembly.{wordsOf, readOperands, readNamed, readWords}
-use Rattle.assembly.specs.Scan.{lettersTo, lettersFrom, endsAt, operandAt, shapeAt, codeAt, lineAt, firstLine, lineTo, lineOf}
+use Rattle.assembly.specs.Scan.{lettersTo, lettersFrom, endsAt, numberAt, operandAt, shapeAt, codeAt, lineAt}
+use Rattle.assembly.specs.Scan.{firstLine, lineTo, lineOf}
 use Rattle.assembly.proofs.Words.{words-some, words-alone, words-space, words-other, line-letters, line-goes}
 use Rattle.assembly.proofs.Words.{After, ends, goes, line-after, drop-after, byte-first}
-use Rattle.assembly.proofs.Operand.{operand-line}
+use Rattle.assembly.proofs.Operand.{operand-missing, operand-line}
 
 -- ════════════════════════════════════════════════════════════════════════════════════════════
 -- The letters that a text begins with
@@ -135,15 +139,19 @@ module _ (s : List ℕ) where
 
 module _ (s : List ℕ) (n : ℕ) where
   named-ends : (x : Option Opcode) → getD s n 10 ≡ 10 → shapeAt s (codeOr x) n (shapeOf x) ≡ lineTo (n + 1) (readNamed x [])
-  unfolding operandAt
   named-ends none e = refl
-  named-ends (some o) e = by (operandWidth o) refl
+  named-ends (some o) e = by (operandOf o) refl
     where
-      by : (k : ℕ) → operandWidth o ≡ k
-          → choose (eqb k 0) (endsAt s n (Is (codeOf o) (pos 0) 1 (n + 1))) (operandAt s (codeOf o) (k + 1) n)
-          ≡ lineTo (n + 1) (readOperands o k [])
-      by zero w = rw (e, opcode-command o (pos 0), operand-command o (pos 0) (λ h. refl), w)
-      by (suc k) w = rw (ne-eqb (suc k) 0 (λ h. omega arith), e)
+      missing : (x : Operand) → operandAt s n x ≡ Missing
+      missing x = operand-missing s n (λ h. omega arith) x
+
+      by : (x : Operand) → operandOf o ≡ x
+          → choose (eqb (width x) 0) (endsAt s n (Is (codeOf o) (pos 0) 1 (n + 1))) (numberAt s (codeOf o) (width x + 1) (operandAt s n x))
+          ≡ lineTo (n + 1) (readOperands o x [])
+      by (Signed zero) w = rw (e, opcode-command o (pos 0), operand-command o (pos 0) (λ h. refl), w)
+      by (Signed (suc k)) w = rw (ne-eqb (suc k) 0 (λ h. omega arith), missing (Signed (suc k)))
+      by Page w = rw (missing Page)
+      by Counts w = rw (missing Counts)
 
   module _ (b : List ℕ) (space : drop n s ≡ 32 ∷ b) where
     byte : getD s n 10 ≡ 32
@@ -151,25 +159,24 @@ module _ (s : List ℕ) (n : ℕ) where
 
     named-space : (x : Option Opcode)
         → shapeAt s (codeOr x) n (shapeOf x) ≡ lineTo (n + 1 + length (firstLine b) + 1) (readNamed x (wordsOf (firstLine b)))
-    unfolding operandAt
     named-space none = refl
-    named-space (some o) = by (operandWidth o) refl
+    named-space (some o) = by (operandOf o) refl
       where
-        by : (k : ℕ) → operandWidth o ≡ k
-            → choose (eqb k 0) (endsAt s n (Is (codeOf o) (pos 0) 1 (n + 1))) (operandAt s (codeOf o) (k + 1) n)
-            ≡ lineTo (n + 1 + length (firstLine b) + 1) (readOperands o k (wordsOf (firstLine b)))
-        by zero w = let e = words-some (firstLine b) .1 .1 in rw (byte, e)
-        by (suc k) w =
-            rw (ne-eqb (suc k) 0 (λ h. omega arith), byte) (operand-line s o k w (n + 1) b (drop-after s n (32 ∷ []) b space))
+        by : (x : Operand) → operandOf o ≡ x
+            → choose (eqb (width x) 0) (endsAt s n (Is (codeOf o) (pos 0) 1 (n + 1))) (numberAt s (codeOf o) (width x + 1) (operandAt s n x))
+            ≡ lineTo (n + 1 + length (firstLine b) + 1) (readOperands o x (wordsOf (firstLine b)))
+        by (Signed zero) w = let e = words-some (firstLine b) .1 .1 in rw (byte, e)
+        by (Signed (suc k)) w = rw (ne-eqb (suc k) 0 (λ h. omega arith)) (operand-line s o n b space (Signed (suc k)) w (λ h. omega arith))
+        by Page w = operand-line s o n b space Page w (λ h. omega arith)
+        by Counts w = operand-line s o n b space Counts w (λ h. omega arith)
 
   named-other : (x : Option Opcode) → (getD s n 10 ≡ 10 → ⊥) → (getD s n 10 ≡ 32 → ⊥) → shapeAt s (codeOr x) n (shapeOf x) ≡ Malformed
-  unfolding operandAt
   named-other none e f = refl
-  named-other (some o) e f = by (eqb (operandWidth o) 0)
+  named-other (some o) e f = rw (operand-missing s n f (operandOf o)) (by (eqb (operandWidth o) 0))
     where
-      by : (t : Bool) → choose t (endsAt s n (Is (codeOf o) (pos 0) 1 (n + 1))) (operandAt s (codeOf o) (operandWidth o + 1) n) ≡ Malformed
+      by : (t : Bool) → choose t (endsAt s n (Is (codeOf o) (pos 0) 1 (n + 1))) Malformed ≡ Malformed
       by true = rw (ne-eqb (getD s n 10) 10 e)
-      by false = rw (ne-eqb (getD s n 10) 32 f)
+      by false = refl
 
 letters-not : (m : List ℕ) (c : ℕ) (w : List ℕ) → c ≤ 32 → T (allLetters (m ++ c ∷ w)) → ⊥
 letters-not [] c w h t = omega (arith, letters-first c w t)

@@ -3,7 +3,7 @@
 use mathlib.Core.Path.{_≡_, refl, sym, ap, _∙_}
 use mathlib.Core.Bool.{Bool, true, false}
 use mathlib.Core.List.{List, [], _∷_, _++_, append-nil}
-use Prim.Native.Nat.{ℕ, zero, suc, _+_, _-_, _*_, _<_, _≤_}
+use Prim.Native.Nat.{ℕ, suc, _+_, _-_, _*_, _<_, _≤_}
 use native.Mathlib.Omega.{arith}
 use lib.IntN.{ℤ}
 use lib.Dec.{ltb}
@@ -25,9 +25,9 @@ use Rattle.program.proofs.Encoding.{decoded-writable}
 use Rattle.program.proofs.Codes.{opcodeOf-codeOf, opcode-command}
 use Rattle.program.proofs.Fetching.{Next, fetched-next, decode-unknown, decode-cut, decode-next}
 use Rattle.assembly.specs.Assembly.{newline, lineText, listing, denied, given, resultOf, listed}
-use Rattle.assembly.specs.Space.{Counted, Acceptable, textIn, textOf, codeText}
+use Rattle.assembly.specs.Space.{Counted, Acceptable, textIn, textOf, Bare, codeText}
 use Rattle.assembly.proofs.Bounds.{listing-length}
-use Rattle.assembly.proofs.Progress.{after, after-snoc, after-refused, after-accepted, length-snoc, laid-more, listing-append, listing-snoc}
+use Rattle.assembly.proofs.Progress.{after, after-snoc, length-snoc, laid-more, listing-append, listing-snoc}
 
 pub record Told (s : List ℕ) (at size : ℕ) : Type 0 where
   pub done : List Command
@@ -128,6 +128,10 @@ module _ (s : List ℕ) (acc : Acceptable s) where
         pub told-forward : at < next
         told-forward = n .forward
 
+        -- it has no operand where the next one follows at once
+        pub told-bare : next ≡ at + 1 → Bare (opcodeOf (getD s at 0))
+        told-bare k = (n .opcode, sym (ap opcodeOf (n .code)) ∙ opcodeOf-codeOf (n .opcode), omega (arith, n .next-is))
+
         -- it may have its operand, as the sheet is acceptable
         allowed : permits c ≡ true
         unfolding c
@@ -135,7 +139,7 @@ module _ (s : List ℕ) (acc : Acceptable s) where
           where
             by : (b : Bool) → permits c ≡ b → permits c ≡ true
             by true f = f
-            by false f = refusal-not (refusal 12 at) (left-over .0) (sym (decode-next s at h left n false f) ∙ step)
+            by false f = refusal-not _ (left-over .0) (sym (decode-next s at h left n false f) ∙ step)
 
         pub told-next : Told s next (size + length (codeText (opcodeOf (getD s at 0)) z))
         unfolding c left

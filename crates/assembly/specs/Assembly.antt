@@ -1,4 +1,4 @@
--- Sheets in text (request U3): how a text is read into a sheet, and how a sheet is listed as a text.
+-- Sheets in text (requests U3 and U6): how a text is read into a sheet, and how a sheet is listed as a text.
 use Prim.Native.Nat.{ℕ, zero, suc}
 use mathlib.Core.Bool.{Bool, true, false}
 use mathlib.Core.List.{List, [], _∷_, _++_}
@@ -11,8 +11,10 @@ use Rattle.word.specs.Lay.{laid}
 use Rattle.word.specs.Text.{decimal}
 use Rattle.word.specs.Numeral.{numberOf}
 use Rattle.program.specs.declared.Command.{Command}
+use Rattle.program.specs.declared.Operand.{Operand}
+use Rattle.program.specs.declared.Operand.the-variants.{Signed, Page, Counts}
 use Rattle.program.specs.declared.Refusal.{Refusal}
-use Rattle.program.specs.Command.{Opcode, operandWidth, inRange, opcode, operand, command}
+use Rattle.program.specs.Command.{Opcode, operandOf, counts, argumentsOf, resultsOf, inRange, opcode, operand, command}
 use Rattle.program.specs.Name.{letters, opcodeNamed}
 use Rattle.program.specs.Decode.{Decoded, refused, accepted, refusal, prepend, decode, commandLimit}
 use Rattle.program.specs.Encode.{encode}
@@ -49,7 +51,7 @@ abbrev pub wordsOf : List ℕ → List (List ℕ)
 wordsOf line = cut space ([] ∷ []) line
 
 -- ════════════════════════════════════════════════════════════════════════════════════════════
--- Reading a line: a name and, where the command has one, an operand
+-- Reading a line: a name and, where the command has an operand, one number or two
 -- ════════════════════════════════════════════════════════════════════════════════════════════
 
 -- refusals 10 and 11, or a command
@@ -61,17 +63,34 @@ abbrev pub readNumber : Opcode → Option ℤ → Line
 readNumber o none = malformed
 readNumber o (some z) = choose (inRange o z) (says (command o z)) outside
 
--- an operand for a command whose operand has so many bytes
-abbrev pub readOperands : Opcode → ℕ → List (List ℕ) → Line
-readOperands o zero [] = says (command o (pos 0))
-readOperands o zero (w ∷ ws) = malformed
-readOperands o (suc k) [] = malformed
-readOperands o (suc k) (w ∷ []) = readNumber o (numberOf w)
-readOperands o (suc k) (w ∷ v ∷ ws) = malformed
+abbrev pub readOne : Opcode → List (List ℕ) → Line
+readOne o [] = malformed
+readOne o (w ∷ []) = readNumber o (numberOf w)
+readOne o (w ∷ v ∷ ws) = malformed
+
+-- two counts: a word that is in no range where one of them is not in its own
+abbrev pub readCounts : Opcode → Option ℤ → Option ℤ → Line
+readCounts o none d = malformed
+readCounts o (some a) none = malformed
+readCounts o (some a) (some d) = readNumber o (some (counts a d))
+
+abbrev pub readTwo : Opcode → List (List ℕ) → Line
+readTwo o [] = malformed
+readTwo o (w ∷ []) = malformed
+readTwo o (w ∷ v ∷ []) = readCounts o (numberOf w) (numberOf v)
+readTwo o (w ∷ v ∷ u ∷ ws) = malformed
+
+-- by the kind of the operand
+abbrev pub readOperands : Opcode → Operand → List (List ℕ) → Line
+readOperands o (Signed zero) [] = says (command o (pos 0))
+readOperands o (Signed zero) (w ∷ ws) = malformed
+readOperands o (Signed (suc k)) ws = readOne o ws
+readOperands o Page ws = readOne o ws
+readOperands o Counts ws = readTwo o ws
 
 abbrev pub readNamed : Option Opcode → List (List ℕ) → Line
 readNamed none ws = malformed
-readNamed (some o) ws = readOperands o (operandWidth o) ws
+readNamed (some o) ws = readOperands o (operandOf o) ws
 
 abbrev pub readWords : List (List ℕ) → Line
 readWords [] = malformed
@@ -104,14 +123,16 @@ readText text = readFrom commandLimit 1 (linesOf text)
 -- Listing commands: the normal text
 -- ════════════════════════════════════════════════════════════════════════════════════════════
 
--- an operand of so many bytes, after one space
-abbrev pub operandText : ℕ → ℤ → List ℕ
-operandText zero z = []
-operandText (suc k) z = space ∷ decimal z
+-- an operand, each number of it after one space
+abbrev pub operandText : Operand → ℤ → List ℕ
+operandText (Signed zero) z = []
+operandText (Signed (suc k)) z = space ∷ decimal z
+operandText Page z = space ∷ decimal z
+operandText Counts z = space ∷ decimal (pos (argumentsOf z)) ++ space ∷ decimal (pos (resultsOf z))
 
 -- a command's line, without its newline
 abbrev pub opcodeText : Opcode → ℤ → List ℕ
-opcodeText o z = letters o ++ operandText (operandWidth o) z
+opcodeText o z = letters o ++ operandText (operandOf o) z
 
 abbrev pub lineText : Command → List ℕ
 lineText c = opcodeText (opcode c) (operand c)

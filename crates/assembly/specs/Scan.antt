@@ -1,16 +1,18 @@
 -- Reading a line as the code does: at a position of the text, whose end reads as a newline.
 use Prim.Native.Nat.{ℕ, suc, _+_, _*_, _^_, _≤_}
 use mathlib.Core.List.{List, [], _∷_}
-use lib.IntN.{pos}
+use lib.IntN.{ℤ, pos, negsuc}
 use lib.ListN.{length, drop, getD}
 use lib.Dec.{leb, eqb}
 use Rattle.word.specs.Choose.{choose}
 use Rattle.word.specs.Numeral.{decimalAt}
 use Rattle.word.specs.declared.numeral.Decimal.{Decimal}
 use Rattle.word.specs.declared.numeral.Decimal.the-variants as Decimal
+use Rattle.program.specs.declared.Operand.{Operand}
+use Rattle.program.specs.declared.Operand.the-variants.{Signed, Page, Counts}
 use Rattle.program.specs.declared.Shape.{Shape}
 use Rattle.program.specs.declared.Shape.the-variants as Shape
-use Rattle.program.specs.Command.{opcodeOf, codeOf, width, operandWidth, opcode, operand}
+use Rattle.program.specs.Command.{opcodeOf, codeOf, width, operandWidth, counts, opcode, operand}
 use Rattle.program.specs.Fetch.{shapeOf, takesOf}
 use Rattle.program.specs.Name.{codeNamed}
 use Rattle.assembly.specs.declared.line.Line.{Line}
@@ -38,14 +40,38 @@ numberAt s code size (Decimal.Beyond next) = endsAt s next Outside
 numberAt s code size (Decimal.Is z next) =
     choose (takesOf (opcodeOf code) z) (endsAt s next (Is code z size (next + 1))) (endsAt s next Outside)
 
--- the operand of a command
-unfoldable pub operandAt : List ℕ → ℕ → ℕ → ℕ → Line
-operandAt s code size at = choose (eqb (getD s at 10) 32) (numberAt s code size (decimalAt s (at + 1))) Malformed
+-- one space and the number after it
+unfoldable pub spacedAt : List ℕ → ℕ → Decimal
+spacedAt s at = choose (eqb (getD s at 10) 32) (decimalAt s (at + 1)) Decimal.Missing
+
+-- the word of two counts, of which the second is read last
+abbrev pub counted : ℤ → Decimal → Decimal
+counted a Decimal.Missing = Decimal.Missing
+counted a (Decimal.Beyond next) = Decimal.Beyond next
+counted a (Decimal.Is d next) = Decimal.Is (counts a d) next
+
+-- and of which the first is read; one beyond the words is out of range, as −1 is
+abbrev pub countsAfter : List ℕ → Decimal → Decimal
+countsAfter s Decimal.Missing = Decimal.Missing
+countsAfter s (Decimal.Beyond next) = counted (negsuc 0) (spacedAt s next)
+countsAfter s (Decimal.Is a next) = counted a (spacedAt s next)
+
+-- the operand of a command, by its kind
+abbrev pub operandAt : List ℕ → ℕ → Operand → Decimal
+operandAt s at (Signed k) = spacedAt s at
+operandAt s at Page = spacedAt s at
+operandAt s at Counts = countsAfter s (spacedAt s at)
+
+-- the position after a number is at most n
+abbrev pub NextWithin : ℕ → Decimal → Type 0
+NextWithin n (Decimal.Is z next) = next ≤ n
+NextWithin n (Decimal.Beyond next) = next ≤ n
+NextWithin n Decimal.Missing = Unit {0}
 
 abbrev pub shapeAt : List ℕ → ℕ → ℕ → Shape → Line
 shapeAt s code at Shape.Unknown = Malformed
 shapeAt s code at (Shape.Of x inputs has rule) =
-    choose (eqb (width x) 0) (endsAt s at (Is code (pos 0) 1 (at + 1))) (operandAt s code (width x + 1) at)
+    choose (eqb (width x) 0) (endsAt s at (Is code (pos 0) 1 (at + 1))) (numberAt s code (width x + 1) (operandAt s at x))
 
 -- a row of the table of commands: an operand has at most eight bytes
 abbrev pub Few : Shape → Type 0

@@ -1,22 +1,26 @@
 -- What the code keeps in spaces of its own and of its callers.
-use Prim.Native.Nat.{ℕ, _+_, _*_, _≤_}
+use Prim.Native.Nat.{ℕ, zero, suc, _+_, _*_, _≤_}
 use mathlib.Core.Path.{_≡_}
-use mathlib.Core.Bool.{Bool, false}
 use mathlib.Core.List.{List, [], _∷_, _++_}
 use mathlib.Core.Option.{Option, none, some}
-use lib.IntN.{ℤ}
+use lib.IntN.{ℤ, pos}
 use lib.ListN.{length, take}
-use lib.Dec.{leb, ltb}
+use lib.Dec.{leb}
 use Rattle.word.specs.Choose.{choose}
 use Rattle.word.specs.Lay.{laid}
+use Rattle.word.specs.Text.{decimal}
 use Rattle.program.specs.declared.Command.{Command}
 use Rattle.program.specs.declared.Checked.the-variants as Checked
-use Rattle.program.specs.Command.{Opcode, operandWidth}
+use Rattle.program.specs.declared.Operand.{Operand}
+use Rattle.program.specs.declared.Operand.the-variants.{Signed, Page, Counts}
+use Rattle.program.specs.Command.{Opcode, operandOf, operandWidth, argumentsOf, resultsOf}
 use Rattle.program.specs.Name.{letters}
 use Rattle.program.specs.Decode.{Decoded, refused, accepted, refusal, decode, commandLimit, checkAnswer}
 use Rattle.assembly.specs.declared.Written.{Written}
 use Rattle.assembly.specs.declared.Written.the-variants as Written
-use Rattle.assembly.specs.Assembly.{Result, denied, given, newline, operandText, listing}
+use Rattle.assembly.specs.declared.listing.Numbers.{Numbers}
+use Rattle.assembly.specs.declared.listing.Numbers.the-variants.{None, One, Two}
+use Rattle.assembly.specs.Assembly.{Result, denied, given, newline, space, operandText, listing}
 
 -- room for nine bytes a line: a line has three letters and its end at least, and there are at most 4,096
 abbrev pub Roomy : List ℕ → List ℕ → Type 0
@@ -67,9 +71,25 @@ textIn (accepted cs) = listing cs
 abbrev pub textOf : List ℕ → List ℕ
 textOf sheet = textIn (decode sheet)
 
-abbrev pub hasOperand : Option Opcode → Bool
-hasOperand none = false
-hasOperand (some o) = ltb 0 (operandWidth o)
+-- the numbers that are written of an operand
+abbrev pub numbersBy : Operand → ℤ → Numbers
+numbersBy (Signed zero) z = None
+numbersBy (Signed (suc k)) z = One z
+numbersBy Page z = One z
+numbersBy Counts z = Two (pos (argumentsOf z)) (pos (resultsOf z))
+
+abbrev pub numbersIn : Option Opcode → ℤ → Numbers
+numbersIn none z = None
+numbersIn (some o) z = numbersBy (operandOf o) z
+
+-- a number after one space
+abbrev pub numberText : ℤ → List ℕ
+numberText z = space ∷ decimal z
+
+abbrev pub numbersText : Numbers → List ℕ
+numbersText None = []
+numbersText (One a) = numberText a
+numbersText (Two a d) = numberText a ++ numberText d
 
 abbrev pub lettersIn : Option Opcode → List ℕ
 lettersIn none = []
@@ -77,7 +97,11 @@ lettersIn (some o) = letters o
 
 abbrev pub operandIn : Option Opcode → ℤ → List ℕ
 operandIn none z = []
-operandIn (some o) z = operandText (operandWidth o) z
+operandIn (some o) z = operandText (operandOf o) z
+
+-- what has no operand
+abbrev pub Bare : Option Opcode → Type 0
+Bare x = (o : Opcode) × (x ≡ some o) × (operandWidth o ≡ 0)
 
 -- the line of what a code stands for, with its newline
 abbrev pub codeText : Option Opcode → ℤ → List ℕ

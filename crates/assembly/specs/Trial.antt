@@ -41,6 +41,7 @@ texts =
     ∷ gives (text ("Push -9223372036854775808" ∷ [])) (5 ∷ 0 ∷ 0 ∷ 0 ∷ 0 ∷ 0 ∷ 0 ∷ 0 ∷ 128 ∷ [])
     ∷ gives (text ("Bnz 32767" ∷ "Bnz -32768" ∷ [])) (9 ∷ 255 ∷ 127 ∷ 9 ∷ 0 ∷ 128 ∷ [])
     ∷ gives (text ("OutputTo -0" ∷ "OutputTo 15" ∷ [])) (12 ∷ 0 ∷ 12 ∷ 15 ∷ [])
+    ∷ gives (text ("CallN 2 1" ∷ "CallN 015 -0" ∷ "RetV" ∷ [])) (13 ∷ 2 ∷ 1 ∷ 13 ∷ 15 ∷ 0 ∷ 14 ∷ [])
     -- a lone newline; a name in another case, or the start of one; two spaces, one too many, a plus; operands too many and too few
     ∷ refuses (newline ∷ []) 10 1
     ∷ refuses (text ("Add" ∷ "push 1" ∷ [])) 10 2
@@ -58,20 +59,33 @@ texts =
     ∷ refuses (text ("OutputTo 16" ∷ [])) 11 1
     ∷ refuses (text ("OutputTo -1" ∷ [])) 11 1
     ∷ refuses (text ("Output 1" ∷ [])) 10 1
+    ∷ refuses (text ("CallN 16 0" ∷ [])) 11 1
+    ∷ refuses (text ("CallN 0 2" ∷ [])) 11 1
+    ∷ refuses (text ("CallN 9223372036854775808 -1" ∷ [])) 11 1
+    ∷ refuses (text ("CallN 2" ∷ [])) 10 1
+    ∷ refuses (text ("CallN 2 1 0" ∷ [])) 10 1
+    ∷ refuses (text ("CallN 16 x" ∷ [])) 10 1
+    ∷ refuses (text ("CallN x 2" ∷ [])) 10 1
+    ∷ refuses (text ("CallN 2  1" ∷ [])) 10 1
+    ∷ refuses (text ("RetV 1" ∷ [])) 10 1
     ∷ []
 
--- sheets that are listed; checks 2, 3 and 12
+-- sheets that are listed; checks 2, 3, 12 and 14
 abbrev pub sheets : List Trial
 sheets =
     gives sheet1 text1
     ∷ gives [] []
     ∷ gives (9 ∷ 255 ∷ 255 ∷ []) (text ("Bnz -1" ∷ []))
     ∷ gives (12 ∷ 15 ∷ []) (text ("OutputTo 15" ∷ []))
-    ∷ refuses (3 ∷ 13 ∷ []) 2 1
+    ∷ gives (13 ∷ 15 ∷ 1 ∷ 14 ∷ []) (text ("CallN 15 1" ∷ "RetV" ∷ []))
+    ∷ refuses (3 ∷ 15 ∷ []) 2 1
     ∷ refuses (3 ∷ 9 ∷ 0 ∷ []) 3 1
     ∷ refuses (3 ∷ 12 ∷ []) 3 1
-    ∷ refuses (3 ∷ 12 ∷ 16 ∷ 13 ∷ []) 12 1
+    ∷ refuses (3 ∷ 12 ∷ 16 ∷ 15 ∷ []) 12 1
     ∷ refuses (3 ∷ 12 ∷ 255 ∷ []) 12 1
+    ∷ refuses (3 ∷ 13 ∷ 16 ∷ []) 3 1
+    ∷ refuses (3 ∷ 13 ∷ 16 ∷ 0 ∷ []) 14 1
+    ∷ refuses (3 ∷ 13 ∷ 0 ∷ 2 ∷ []) 14 1
     ∷ []
 
 abbrev pub Hold : (List ℕ → Result) → List Trial → Type 0

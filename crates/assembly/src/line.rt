@@ -1,10 +1,13 @@
 // One line of a text. Read specs/Scan.antt first.
+use program::Operand;
 use program::Shape;
 use word::numeral::Decimal;
 ghost use mathlib.Core.Path.{_≡_};
 ghost use Prim.Native.Nat.{_<_, _≤_};
 ghost use lib.ListN.{length, drop, getD};
-ghost use Rattle.assembly.specs.Scan.{lettersFrom, endsAt, operandAt, Few, shapeAt, lineOf};
+ghost use Rattle.assembly.specs.Scan.{lettersFrom, endsAt, numberAt, spacedAt, countsAfter, operandAt, NextWithin};
+ghost use Rattle.assembly.specs.Scan.{Few, shapeAt, lineOf};
+ghost use Rattle.assembly.specs.Scan.{counted as countedOf};
 
 // A line: a command's code, its operand or 0, how many bytes it has, and the position after the line; or why it is none.
 pub(crate) enum Line {
@@ -62,20 +65,65 @@ fn shaped(text: &[u8], code: u64, at: usize, shape: Shape) -> Line
             if width == 0 {
                 return ending(text, at, Line::Is(code, 0, 1, at + 1));
             }
-            operand(text, code, width + 1, at)
+            let number = operand(text, at, kind);
+            numbered(text, code, width + 1, number)
         }
     }
 }
 
-// A command's operand: one space and a number in its range.
-fn operand(text: &[u8], code: u64, size: usize, at: usize) -> Line
+// A command's operand: one number, or the word of two counts.
+fn operand(text: &[u8], at: usize, kind: Operand) -> Decimal
     requires { ⌜ at ≤ length (now text) ⌝ }
-    ensures { λ r. ⌜ r ≡ operandAt (now (text .entry)) code size at ⌝ }
+    ensures { λ r. ⌜ r ≡ operandAt (now (text .entry)) at kind ⌝ }
 {
-    if byte_at(text, at) != b' ' {
-        return Line::Malformed;
+    let first = spaced(text, at);
+    match kind {
+        Operand::Signed(_) => first,
+        Operand::Page => first,
+        Operand::Counts => second(text, first),
     }
-    let number = word::numeral::decimal_at(text, at + 1);
+}
+
+// The word of two counts, of which the first is read. One beyond the words is out of range, as -1 is.
+fn second(text: &[u8], first: Decimal) -> Decimal
+    requires { ⌜ NextWithin (length (now text)) first ⌝ }
+    ensures { λ r. ⌜ r ≡ countsAfter (now (text .entry)) first ⌝ }
+{
+    match first {
+        Decimal::Missing => Decimal::Missing,
+        Decimal::Beyond(next) => counted(-1, spaced(text, next)),
+        Decimal::Is(arguments, next) => counted(arguments, spaced(text, next)),
+    }
+}
+
+// And of which the second is read.
+fn counted(arguments: i64, results: Decimal) -> Decimal
+    ensures { λ r. ⌜ r ≡ countedOf arguments results ⌝ }
+{
+    match results {
+        Decimal::Missing => Decimal::Missing,
+        Decimal::Beyond(next) => Decimal::Beyond(next),
+        Decimal::Is(number, next) => Decimal::Is(program::counts(arguments, number), next),
+    }
+}
+
+// One space and the number after it.
+fn spaced(text: &[u8], at: usize) -> Decimal
+    requires { ⌜ at ≤ length (now text) ⌝ }
+    ensures { λ r. ⌜ r ≡ spacedAt (now (text .entry)) at ⌝ }
+{
+    if byte_at(text, at) == b' ' {
+        word::numeral::decimal_at(text, at + 1)
+    } else {
+        Decimal::Missing
+    }
+}
+
+// A command with its operand, which is in its range and ends the line.
+fn numbered(text: &[u8], code: u64, size: usize, number: Decimal) -> Line
+    requires { ⌜ NextWithin (length (now text)) number ⌝ }
+    ensures { λ r. ⌜ r ≡ numberAt (now (text .entry)) code size number ⌝ }
+{
     match number {
         Decimal::Missing => Line::Malformed,
         Decimal::Beyond(next) => ending(text, next, Line::Outside),

@@ -1,11 +1,11 @@
 -- Document 01's twelve starred readings, R1 to R12, with request U1's end lines, U2's stop 9, U4's pages and U5's clearances, and what
 -- they leave open: what is asked of the engines and of the page, and what each must give. proofs/Readings.antt computes them.
-use Prim.Native.Nat.{ℕ, _^_, _*_, _-_}
+use Prim.Native.Nat.{ℕ, _+_, _^_, _*_, _-_}
 use mathlib.Core.List.{List, [], _∷_, _++_, map}
 use lib.IntN.{ℤ, pos, negsuc}
 use lib.ListN.{replicate, set}
 use Rattle.program.specs.declared.Command.{Command}
-use Rattle.program.specs.declared.Command.the-variants.{Add, Sub, Output, Push, Load, Store, Jump, Bnz, Call, Ret, OutputTo}
+use Rattle.program.specs.declared.Command.the-variants.{Add, Sub, Output, Push, Load, Store, Jump, Bnz, Call, Ret, OutputTo, CallN, RetV}
 use Rattle.program.specs.Encode.{encode}
 use Rattle.machine.specs.Atom.{Atom, Line, numberLine, endLine}
 use Rattle.machine.specs.Step.{atom}
@@ -264,6 +264,35 @@ hiddenEnd = Push (pos 1) ∷ Load ∷ Bnz (pos 1) ∷ []
 abbrev pub printing : List Command
 printing = Push (pos 0) ∷ Load ∷ Output ∷ Push (pos 1) ∷ Load ∷ OutputTo (pos 1) ∷ []
 
+-- CallN's operand word for so many arguments and results
+abbrev pub calls : ℕ → ℕ → ℤ
+calls arguments results = pos (16 * arguments + results)
+
+-- from command 2 on a function that is given a number and returns C0 less it; it is called with C1
+abbrev pub correcting : List Command
+correcting =
+    Push (pos 6) ∷ Jump ∷ Push (pos 0) ∷ Load ∷ Sub ∷ RetV
+    ∷ Push (pos 1) ∷ Load ∷ Push (pos 2) ∷ CallN (calls 1 1) ∷ Output ∷ []
+
+-- from command 2 on a function that branches on what it is given and returns 9; it is called with C1
+abbrev pub hiding : List Command
+hiding = Push (pos 5) ∷ Jump ∷ Bnz (pos 1) ∷ Push (pos 9) ∷ RetV ∷ Push (pos 1) ∷ Load ∷ Push (pos 2) ∷ CallN (calls 1 1) ∷ Output ∷ []
+
+-- a Ret to a frame that owes a result, and a RetV
+abbrev pub owing : List Command
+owing = Push (pos 2) ∷ CallN (calls 0 1) ∷ Ret ∷ []
+
+abbrev pub returning : List Command
+returning = Push (pos 2) ∷ CallN (calls 0 1) ∷ Push (pos 5) ∷ RetV ∷ []
+
+-- a row of Call's rule, for the command with a code: the target's label is 2, the place's 1; a row of RetV's rule with a result label: the
+-- value's label is 2, the frame's 4, the place's 1
+abbrev pub callRow : ℕ → List ℤ
+callRow code = pos code ∷ pos 1 ∷ pos 2 ∷ negsuc 0 ∷ negsuc 0 ∷ pos 3 ∷ pos 1 ∷ []
+
+abbrev pub returnRow : ℕ → List ℤ
+returnRow result = pos 14 ∷ pos 1 ∷ pos 2 ∷ pos 4 ∷ negsuc 0 ∷ pos 4 ∷ pos result ∷ []
+
 -- what they leave open
 abbrev pub storingLoaded : Setting
 storingLoaded = usual (Push (pos 1) ∷ Load ∷ Push (pos 0) ∷ Store ∷ [])
@@ -303,13 +332,13 @@ others =
     ++ (fact (pageFor (jobOf (encode paging) (reader 1))) (page (lineFive ++ lineSeven ++ lineEnd))
     ∷ fact (pageFor (jobOf (encode paging) (reader 0))) (page (lineSeven ++ lineEnd))
     ∷ []))
-    -- it is under Output's rule, with its own code in the rule memory; no command has the code 13
+    -- it is under Output's rule, with its own code in the rule memory; no command has the code 15
     ∷ (fact
     (rowAfter (usual (Push (pos 1) ∷ OutputTo (pos 0) ∷ [])))
     (words (pos 12 ∷ pos 0 ∷ pos 0 ∷ negsuc 0 ∷ negsuc 0 ∷ pos 0 ∷ pos 0 ∷ []))
     ∷ only (from (outputRow 4)) (run 0 0 (ends 0)))
     ∷ only (from (outputRow 12)) (run 0 0 (ends 0))
-    ∷ only (from (outputRow 13)) (refused 7 0)
+    ∷ only (from (outputRow 15)) (refused 7 0)
     -- its stops: no value, no space
     ∷ each (usual (OutputTo (pos 1) ∷ [])) (run 3 0 [])
     ∷ each (narrow 0 1_000_000 (Push (pos 1) ∷ OutputTo (pos 1) ∷ [])) (run 8 1 [])
@@ -338,4 +367,35 @@ others =
     ∷ each (closed 0 (negsuc 0) []) (refused 13 0)
     ∷ each (clearing (numbering 15) 16 1_000_001 []) (refused 13 16)
     ∷ each (clearing (numbering 17) 16 1_000_000 []) (refused 13 16)
+    -- a height corrected by a called function that returns it: C0 − C1, which has label 1; the place has the label that it had at the call
+    ∷ each (usual correcting) (run 0 11 (line (pos 2) 1 ∷ ends 0))
+    -- what is returned from a place of label 1 has label 1, and the place has the frame's label again
+    ∷ each (usual hiding) (run 0 10 (line (pos 9) 1 ∷ ends 0))
+    -- arguments stay in their order above the frame, up to fifteen
+    ∷ each
+    (usual (Push (pos 1) ∷ Push (pos 2) ∷ Push (pos 3) ∷ Push (pos 5) ∷ CallN (calls 3 0) ∷ Output ∷ Output ∷ Output ∷ Ret ∷ []))
+    (run 3 9 (line (pos 3) 0 ∷ line (pos 2) 0 ∷ line (pos 1) 0 ∷ []))
+    ∷ each (usual (replicate 15 (Push (pos 0)) ++ (Push (pos 17) ∷ CallN (calls 15 0) ∷ []))) (run 0 17 (ends 0))
+    -- stop 3: an argument is missing, or a frame; RetV finds nothing, or a frame
+    ∷ each (usual (Push (pos 2) ∷ CallN (calls 1 0) ∷ [])) (run 3 1 [])
+    ∷ each (usual (Push (pos 2) ∷ CallN (calls 0 0) ∷ Push (pos 4) ∷ CallN (calls 1 0) ∷ [])) (run 3 3 [])
+    ∷ each (usual (RetV ∷ [])) (run 3 0 [])
+    ∷ each (usual (Push (pos 2) ∷ CallN (calls 0 1) ∷ RetV ∷ [])) (run 3 2 [])
+    -- stop 4: RetV finds no frame under its value
+    ∷ each (usual (Push (pos 1) ∷ RetV ∷ [])) (run 4 1 [])
+    ∷ each (usual (Push (pos 1) ∷ Push (pos 1) ∷ RetV ∷ [])) (run 4 2 [])
+    -- stop 11: Ret on a frame that owes a result, RetV on one that owes none; nobody is asked
+    ∷ (each (usual owing) (run 11 2 [])
+    ++ (fact (rowAfter (usual owing)) (words (pos 13 ∷ pos 0 ∷ pos 0 ∷ negsuc 0 ∷ negsuc 0 ∷ pos 0 ∷ pos 0 ∷ [])) ∷ []))
+    ∷ each (usual (Push (pos 2) ∷ CallN (calls 0 0) ∷ Push (pos 1) ∷ RetV ∷ [])) (run 11 3 [])
+    ∷ each (usual (Push (pos 0) ∷ Push (pos 3) ∷ Call ∷ Push (pos 1) ∷ RetV ∷ [])) (run 4 4 [])
+    -- CallN is under Call's rule and RetV under its own, each with its own code in the rule memory
+    ∷ only (from (callRow 10)) (run 0 0 (ends 0))
+    ∷ only (from (callRow 13)) (run 0 0 (ends 0))
+    ∷ only (from (returnRow 3)) (run 0 0 (ends 0))
+    ∷ only (from (returnRow 2)) (refused 7 0)
+    ∷ (fact (rowAfter (paid 4 returning)) (words (pos 14 ∷ pos 0 ∷ pos 0 ∷ pos 0 ∷ negsuc 0 ∷ pos 0 ∷ pos 0 ∷ [])) ∷ [])
+    -- sixteen arguments are refused, and two results, at the command's offset
+    ∷ each (usual (Ret ∷ CallN (calls 16 0) ∷ [])) (refused 14 1)
+    ∷ each (usual (Ret ∷ CallN (calls 0 2) ∷ [])) (refused 14 1)
     ∷ []

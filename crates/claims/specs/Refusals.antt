@@ -50,7 +50,7 @@ abbrev pub FirstOf : List Check → Check
 FirstOf [] = λ r. ⊥
 FirstOf (c ∷ cs) = c before FirstOf cs
 
--- 1 to 3 and 12, the sheet: as reading it from the left gives them
+-- 1 to 3, 12 and 14, the sheet: as reading it from the left gives them
 abbrev pub Sheet : List ℕ → Check
 Sheet sheet r = decode sheet ≡ Decode.refused r
 
@@ -95,7 +95,7 @@ Checks sheet c m fuel own =
     let values = length (m .lent .cells .values) in
     let labels = length (m .lent .cells .labels) in
     FirstOf (
-    -- 1 to 3 and 12
+    -- 1 to 3, 12 and 14
     Sheet sheet
     -- 4: the runs of the cells differ in length, else over 1,024
     ∷ Gives (values ≢ labels) (refusal 4 (min values labels))
@@ -127,10 +127,10 @@ pub record Demand (checks refused : Check) (stopped : Type 0) : Type 0 where
   pub always : (r : Refusal) → checks r → refused r
   pub otherwise : Nothing checks → stopped
 
--- one of the eleven stops, within the allowance
+-- one of the twelve stops, within the allowance
 abbrev pub StoppedBy : {R : Type 0} → ℕ → Ended R → Type 0
 StoppedBy {R} fuel x =
-    (ran : Ran) × (u : R) × (after : Memory) × (x ≡ ended (Answer.Stopped ran) u after) × (ran .stop ≤ 10) × (ran .steps ≤ fuel)
+    (ran : Ran) × (u : R) × (after : Memory) × (x ≡ ended (Answer.Stopped ran) u after) × (ran .stop ≤ 11) × (ran .steps ≤ fuel)
 
 abbrev pub TaggedDemand : List ℕ → Clearances → Memory → ℕ → List ℕ → (row handler : List ℤ) → Left → Type 0
 TaggedDemand sheet c m fuel bytes row handler x =

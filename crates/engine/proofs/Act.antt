@@ -8,7 +8,7 @@ use native.Mathlib.Omega.{arith}
 use lib.IntN.{ℤ, pos, _+ℤ_}
 use Rattle.word.specs.Wrap.{Signed, residue}
 use Rattle.program.specs.declared.Command.{Command}
-use Rattle.program.specs.declared.Command.the-variants.{Add, Sub, Pop, Output, Push, Load, Store, Jump, Bnz, Call, Ret, OutputTo}
+use Rattle.program.specs.declared.Command.the-variants.{Add, Sub, Pop, Output, Push, Load, Store, Jump, Bnz, Call, Ret, OutputTo, CallN, RetV}
 use Rattle.program.specs.Command.{opcode, codeOf, operand}
 use Rattle.program.proofs.Codes.{code-residue}
 use Rattle.machine.specs.Environment.{Environment}
@@ -33,6 +33,7 @@ use Rattle.engine.proofs.Link.Carried.{stop-simulates}
 use Rattle.engine.proofs.Link.Looks.{finding, askedFor, found, Looks}
 use Rattle.engine.proofs.Link.Command.{add-looks, sub-looks, pop-looks, output-looks, push-looks, load-looks}
 use Rattle.engine.proofs.Link.Command.{store-looks, jump-looks, bnz-looks, call-looks, ret-looks, output-to-looks}
+use Rattle.engine.proofs.Link.Command.{call-n-looks, ret-v-looks}
 
 -- ════════════════════════════════════════════════════════════════════════════════════════════
 -- What a command finds and does
@@ -58,6 +59,8 @@ module _ {env : Environment} {o₀ : Memory.Output} {s : State} {l : Lent} {o : 
   command-looks Call to = call-looks r h on
   command-looks Ret to = ret-looks r h on
   command-looks (OutputTo page) to = output-to-looks r h on page
+  command-looks (CallN z) to = call-n-looks r h on z
+  command-looks RetV to = ret-v-looks r h on
 
 -- ════════════════════════════════════════════════════════════════════════════════════════════
 -- The rule between them
@@ -106,5 +109,5 @@ module _ {R : Type 0} (ω : WordRuler R) (ρ : Ruler R) (follows : Follows ω ρ
   unfolding actOf execute
   act-both r h cs has at =
       let looks = command-looks r h (has .following (s .pc .number) c at) c (λ n e. has .branched (s .pc .number) n (rw e at at)) in
-      request-acts (request env c s) (request-asks env s (h .labels) c) (findOf (residue 64 (pos (codeOf (opcode c)))) m l)
+      request-acts (request env c s) (request-asks env s (h .labels) c) (findOf (residue 64 (pos (codeOf (opcode c)))) (operand c) m l)
       (rw (code-residue (opcode c)) looks)

@@ -12,9 +12,11 @@ use Rattle.word.proofs.Bool.{never}
 use Rattle.label.specs.declared.Stored.{Stored}
 use Rattle.label.specs.declared.Stored.the-variants.{Of, Nothing}
 use Rattle.label.specs.Word.{stored}
-use Rattle.program.specs.Command.{opcodeOf}
+use Rattle.program.specs.declared.Operand.{Operand}
+use Rattle.program.specs.declared.Operand.the-variants as Operand
+use Rattle.program.specs.Command.{opcodeOf, operandOf, opcode}
 use Rattle.program.specs.Decode.{Decoded, refused, accepted, refusal, prepend, First, unknown, cut, whole}
-use Rattle.program.specs.Decode.{firstOpcode, permits, decodeIf, decodeFirst, decodeFrom, decode, commandLimit}
+use Rattle.program.specs.Decode.{firstOpcode, permits, checkOf, decodeIf, decodeFirst, decodeFrom, decode, commandLimit}
 use Rattle.program.specs.declared.Command.{Command}
 use Rattle.program.specs.declared.Refusal.{Refusal}
 use Rattle.machine.specs.Rule.{Ruler}
@@ -44,6 +46,11 @@ prepend-numbered : (c : Command) (d : Decoded) → Numbered d → Numbered (prep
 prepend-numbered c (refused r) h = h
 prepend-numbered c (accepted cs) h = tt
 
+check-numbered : (x : Operand) → 1 ≤ checkOf x
+check-numbered (Operand.Signed k) = omega arith
+check-numbered Operand.Page = omega arith
+check-numbered Operand.Counts = omega arith
+
 first-numbered : (f : First) (at : ℕ) (rest : ℕ → Decoded) → ((width : ℕ) → Numbered (rest width)) → Numbered (decodeFirst f at rest)
 first-numbered unknown at rest h = omega arith
 first-numbered cut at rest h = omega arith
@@ -51,7 +58,7 @@ first-numbered (whole c width) at rest h = by (permits c)
   where
     by : (b : Bool) → Numbered (decodeIf b c at (rest width))
     by true = prepend-numbered c (rest width) (h width)
-    by false = omega arith
+    by false = check-numbered (operandOf (opcode c))
 
 decode-numbered : (left at : ℕ) (bytes : List ℕ) → Numbered (decodeFrom left at bytes)
 unfolding decodeFrom

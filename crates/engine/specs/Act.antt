@@ -57,7 +57,7 @@ module _ {R : Type 0} (ρ : WordRuler R) (word operand : ℤ) (m : Machine) (u :
       (acted (after (outcome m (i .stop)) l) u)
 
   unfoldable pub actOf : Acted R
-  actOf = actFound (findOf (residue 64 word) m l)
+  actOf = actFound (findOf (residue 64 word) operand m l)
 
 -- where a run stands after a command, and the output space
 abbrev pub went : Machine → ℕ → Went

@@ -1,5 +1,6 @@
 -- How a state of the machine lies in lent words, as document 01 says it.
 use Prim.Native.Nat.{ℕ}
+use mathlib.Core.Bool.{Bool}
 use mathlib.Core.List.{List, [], _∷_, _++_, map}
 use lib.IntN.{ℤ, pos}
 use lib.ListN.{take, getD}
@@ -19,10 +20,14 @@ use Rattle.step.specs.Lent.{Cells, cells}
 use Rattle.engine.specs.declared.Line as Code
 use Rattle.engine.specs.Memory.{Output, output}
 
--- three words a stack entry: 0 value or 1 frame, number, label
+-- the kind word of a frame: 2 where a result is due, else 1
+abbrev pub frameWord : Bool → ℤ
+frameWord owes = choose owes (pos 2) (pos 1)
+
+-- three words a stack entry: 0 for a value or a frame's kind word, number, label
 abbrev pub entryWords : Entry → List ℤ
 entryWords (value a) = pos 0 ∷ a .number ∷ pos (a .label) ∷ []
-entryWords (frame a) = pos 1 ∷ a .number ∷ pos (a .label) ∷ []
+entryWords (frame owes a) = frameWord owes ∷ a .number ∷ pos (a .label) ∷ []
 
 -- bottom first
 unfoldable pub stackWords : List Entry → List ℤ

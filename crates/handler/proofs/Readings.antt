@@ -7,7 +7,7 @@ use native.Mathlib.Omega.{arith}
 use lib.IntN.{ℤ, pos, negsuc}
 use lib.ListN.{length, getElem?}
 use Rattle.word.specs.Wrap.{residue, signed, wrap, addWrap, subWrap}
-use Rattle.program.specs.Command.{Opcode, add, sub, pop, output, push, load, store, jump, bnz, call, ret, outputTo, codeOf}
+use Rattle.program.specs.Command.{Opcode, add, sub, pop, output, push, load, store, jump, bnz, call, ret, outputTo, callN, retV, codeOf}
 use Rattle.handler.specs.Kernel.{orWord, effect, step, run, handle}
 use Rattle.handler.specs.Translate.{compileRule, translate}
 use Rattle.handler.specs.Reading.{Reading, computed, readings, Steps}
@@ -18,8 +18,8 @@ pub readings-hold : map computed readings ≡ map (λ (r : Reading). r .expected
 unfolding computed handle run step effect orWord addWrap subWrap wrap signed residue translate compileRule standardTable
 readings-hold = refl
 
--- the handler of the standard table has 152 instructions
-pub standard-length : length (translate standardTable) ≡ 152
+-- the handler of the standard table has 166 instructions
+pub standard-length : length (translate standardTable) ≡ 166
 unfolding translate compileRule standardTable
 standard-length = refl
 
@@ -39,7 +39,7 @@ module _ (p a b c : ℤ) where
 
   -- Store's branch, after 17 steps: what it tests is not known, but for one of three forms
   store-few : (z : ℤ)
-      → Few (run (getElem? (translate standardTable)) 135 (record { place = 92; stack = z ∷ []; row = row store; steps = 17 }) .steps)
+      → Few (run (getElem? (translate standardTable)) 149 (record { place = 94; stack = z ∷ []; row = row store; steps = 17 }) .steps)
   unfolding effect step run compileRule translate standardTable
   store-few (pos zero) = few-are 33 refl (omega arith, omega arith)
   store-few (pos (suc n)) = few-are 20 refl (omega arith, omega arith)
@@ -59,6 +59,8 @@ module _ (p a b c : ℤ) where
   few call = few-are 19 refl (omega arith, omega arith)
   few ret = few-are 15 refl (omega arith, omega arith)
   few outputTo = few-are 19 refl (omega arith, omega arith)
+  few callN = few-are 19 refl (omega arith, omega arith)
+  few retV = few-are 19 refl (omega arith, omega arith)
 
 pub standard-steps : Steps
 standard-steps k = few (pos (k .pc)) (inputWord (k .input1)) (inputWord (k .input2)) (inputWord (k .input3)) (k .opcode)

@@ -3,7 +3,7 @@
 use Prim.Native.Nat.{ℕ, _≤_}
 use mathlib.Core.List.{List, [], _∷_}
 use lib.IntN.{pos}
-use Rattle.program.specs.Command.{Opcode, add, sub, pop, output, push, load, store, jump, bnz, call, ret, outputTo}
+use Rattle.program.specs.Command.{Opcode, add, sub, pop, output, push, load, store, jump, bnz, call, ret, outputTo, callN, retV}
 use Rattle.machine.specs.Rule.{Input, present, missing, Key}
 use Rattle.policy.specs.Standard.{standardTable}
 use Rattle.policy.specs.Expression.{input1, input2, input3}
@@ -47,6 +47,8 @@ readings =
     ∷ allows (key call 1 (present 2) missing missing) 3 1 19
     ∷ allows (key ret 3 (present 1) missing missing) 1 0 15
     ∷ allows (key outputTo 1 (present 2) missing missing) 1 3 19
+    ∷ allows (key callN 1 (present 2) missing missing) 3 1 19
+    ∷ allows (key retV 3 (present 2) (present 1) missing) 1 3 19
     ∷ []
 
 -- whatever the key, a fault takes 15 to 33 kernel steps under the standard table

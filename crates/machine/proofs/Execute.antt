@@ -1,10 +1,10 @@
 -- One command: what it changes, and why it is stopped.
 -- Assumes nothing.
-use mathlib.Core.Path.{_≡_, refl}
-use mathlib.Core.Bool.{false}
+use mathlib.Core.Path.{_≡_, refl, ap, _∙_}
+use mathlib.Core.Bool.{true, false}
 use mathlib.Core.Option.{some}
 use mathlib.Core.List.{List, [], _∷_, _++_, append-nil}
-use Prim.Native.Nat.{ℕ, suc, _≤_}
+use Prim.Native.Nat.{ℕ, suc, _+_, _≤_}
 use native.Mathlib.Omega.{arith}
 use lib.IntN.{ℤ}
 use lib.ListN.{length, length-append, length-set}
@@ -13,18 +13,19 @@ use borrow.Author.Tests.{ltb-true, ltb-false}
 use Rattle.word.specs.Exact.{isSigned}
 use Rattle.word.proofs.Laws.Exact.{test-unsigned}
 use Rattle.program.specs.declared.Command.{Command}
-use Rattle.program.specs.declared.Command.the-variants.{Add, Sub, Pop, Output, Push, Load, Store, Jump, Bnz, Call, Ret, OutputTo}
-use Rattle.program.specs.Command.{opcode, push}
+use Rattle.program.specs.declared.Command.the-variants.{Add, Sub, Pop, Output, Push, Load, Store, Jump, Bnz, Call, Ret, OutputTo, CallN, RetV}
+use Rattle.program.specs.Command.{opcode, push, argumentsOf, resultsOf}
 use Rattle.machine.specs.Atom.{Atom, Entry, Line, numberLine}
 use Rattle.machine.specs.Rule.{Verdict, denied, allowed, Policy}
 use Rattle.machine.specs.Environment.{Environment, barrier}
-use Rattle.machine.specs.State.{State, Stop, valueMissing, frameMissing, addressOutside, denial, overflow, stackFull}
+use Rattle.machine.specs.State.{State, Stop, valueMissing, frameMissing, wrongReturn, addressOutside, denial}
+use Rattle.machine.specs.State.{overflow, stackFull}
 use Rattle.machine.specs.Step.{Outcome, stopped, stepped, Request, halt, ask, stackLimit, unlessBarred, printing, keyOf, decide}
-use Rattle.machine.specs.Step.{consult, making, outputting, request, execute}
+use Rattle.machine.specs.Step.{consult, making, outputting, calling, request, execute}
 use Rattle.machine.specs.Stopped.{Denied, Makes, sum, difference, Overflows, Writes, plain, to, Offers}
 use Rattle.machine.specs.End.{hasEnd}
 use Rattle.machine.proofs.Barrier.{Barred, barred-all}
-use Rattle.machine.proofs.Request.{value-all, values-all, frame-all, cell-all, provided-all}
+use Rattle.machine.proofs.Request.{value-all, values-all, arguments-all, frame-all, cell-all, provided-all}
 
 pub record Change (env : Environment) (s t : State) : Type 0 where
   pub steps : t .steps ≡ suc (s .steps)
@@ -38,6 +39,7 @@ pub record Change (env : Environment) (s t : State) : Type 0 where
 pub data Cause (π : Policy) (env : Environment) (c : Command) (s : State) : Stop → Type 0 where
   no-value : request env c s ≡ halt valueMissing → Cause π env c s valueMissing
   no-frame : request env c s ≡ halt frameMissing → Cause π env c s frameMissing
+  no-return : request env c s ≡ halt wrongReturn → Cause π env c s wrongReturn
   no-cell : request env c s ≡ halt addressOutside → Cause π env c s addressOutside
   no-leave : Denied π c s (request env c s) → Cause π env c s denial
   no-number : Overflows c s → Cause π env c s overflow
@@ -99,6 +101,14 @@ making-fit π env c s make makes =
     (λ g. moved env s _ _ (rw e (omega arith)))
     (λ g. no-number (record { make = make; makes = makes; top = a; next = b; rest = rest; found = e }, test-unsigned 64 n g)))
 
+-- a frame stands in place of the target
+calling-fit : (π : Policy) (env : Environment) (c : Command) (s : State) (n results : ℕ) → Fit π env c s (calling s n results)
+calling-fit π env c s n results =
+    value-all (Fit π env c s) (s .stack) _ no-value (λ a below e.
+    arguments-all (Fit π env c s) n below _ no-value (λ arguments rest v g p r w.
+    let grown : length (s .stack) ≡ suc (length arguments + length rest) = ap length e ∙ rw (g, length-append) in
+    moved env s _ _ (rw length-append (omega arith))))
+
 request-fit : (π : Policy) (env : Environment) (c : Command) (s : State) → Fit π env c s (request env c s)
 unfolding request
 request-fit π env Add s = making-fit π env Add s _ sum
@@ -128,11 +138,14 @@ request-fit π env Jump s =
     value-all (Fit π env Jump s) (s .stack) _ no-value (λ a rest e p r v. moved env s _ _ (rw e (omega arith)))
 request-fit π env (Bnz n) s =
     value-all (Fit π env (Bnz n) s) (s .stack) _ no-value (λ a rest e p r v. moved env s _ _ (rw e (omega arith)))
-request-fit π env Call s =
-    values-all (Fit π env Call s) (s .stack) _ no-value (λ a b rest e p r v. moved env s _ _ (rw e (omega arith)))
+request-fit π env Call s = calling-fit π env Call s 1 0
 request-fit π env Ret s =
-    frame-all (Fit π env Ret s) (s .stack) _ no-frame (λ a rest e p r v. moved env s _ _ (rw e (omega arith)))
+    frame-all (Fit π env Ret s) false (s .stack) _ no-frame no-return (λ a rest e p r v. moved env s _ _ (rw e (omega arith)))
 request-fit π env (OutputTo page) s = output-fit π env (OutputTo page) s page to
+request-fit π env (CallN z) s = calling-fit π env (CallN z) s (argumentsOf z) (resultsOf z)
+request-fit π env RetV s =
+    value-all (Fit π env RetV s) (s .stack) _ no-value (λ v below e.
+    frame-all (Fit π env RetV s) true below _ no-frame no-return (λ a rest g p r w. moved env s _ _ (rw (e, g) (omega arith))))
 
 pub execute-sound : (π : Policy) (env : Environment) (c : Command) (s : State) → Sound π env c s (execute π env c s)
 unfolding execute

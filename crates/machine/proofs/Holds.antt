@@ -16,21 +16,23 @@ use Rattle.word.proofs.Bool.{never}
 use Rattle.label.specs.Label.{InRange, bottom}
 use Rattle.label.proofs.Laws.{join-range}
 use Rattle.program.specs.declared.Command.{Command}
-use Rattle.program.specs.declared.Command.the-variants.{Add, Sub, Pop, Output, Push, Load, Store, Jump, Bnz, Call, Ret, OutputTo}
-use Rattle.program.specs.Command.{Opcode, add, sub, pop, output, push, load, store, jump, bnz, call, ret, outputTo}
+use Rattle.program.specs.declared.Command.the-variants.{Add, Sub, Pop, Output, Push, Load, Store, Jump, Bnz, Call, Ret, OutputTo, CallN, RetV}
+use Rattle.program.specs.Command.{argumentsOf, resultsOf}
+use Rattle.program.specs.Command.{Opcode, add, sub, pop, output, push, load, store, jump, bnz, call, ret, outputTo, callN, retV}
 use Rattle.machine.specs.Atom.{Atom, Entry, value, frame, Line, numberLine, endLine}
 use Rattle.machine.specs.Rule.{Input, present, missing, Verdict, denied, allowed, Policy, Ruler, rules, standard}
 use Rattle.machine.specs.Rule.{labelOf, allowedIf, rule}
 use Rattle.machine.specs.Environment.{Environment}
 use Rattle.machine.specs.State.{State, overflow, stackFull}
 use Rattle.machine.specs.Step.{Request, halt, ask, stackLimit, withValue, withValues, withFrame, withCell, atom}
-use Rattle.machine.specs.Step.{branch, keyOf, decide, consult, making, outputting, request, execute}
+use Rattle.machine.specs.Step.{branch, keyOf, decide, consult, making, outputting, calling, request, execute}
 use Rattle.machine.specs.Run.{step, closed, run}
 use Rattle.machine.specs.Stopped.{CommandAt, Makes, sum, difference, Made, number}
 use Rattle.machine.specs.Holds.{Each, AtomHas, EntryHas, LineHas, Holds, LabelsInRange, NumbersSigned, InputHas, Answers, ProgramHas}
 use Rattle.machine.specs.Exact.{Brings}
 use Rattle.machine.proofs.Barrier.{barred-all}
-use Rattle.machine.proofs.Request.{At, here, there, value-all, values-all, frame-all, cell-all, provided-all}
+use Rattle.machine.proofs.Request.{At, here, there, value-all, values-all, arguments-all, frame-all, cell-all}
+use Rattle.machine.proofs.Request.{provided-all}
 use Rattle.machine.proofs.Step.{Gives, gives-stepped, step-all, run-keeps}
 
 -- ════════════════════════════════════════════════════════════════════════════════════════════
@@ -45,6 +47,10 @@ each-set : (P : Atom → Type 0) (l : List Atom) (i : ℕ) (a : Atom) → P a �
 each-set P [] i a p h = tt
 each-set P (b ∷ l) zero a p h = (p, h .1)
 each-set P (b ∷ l) (suc i) a p h = (h .0, each-set P l i a p (h .1))
+
+each-insert : (P : Entry → Type 0) (l m : List Entry) (e : Entry) → P e → Each P (l ++ m) → Each P (l ++ (e ∷ m))
+each-insert P [] m e p h = (p, h)
+each-insert P (d ∷ l) m e p h = (h .0, each-insert P l m e p (h .1))
 
 pub each-snoc : (P : Line → Type 0) (l : List Line) (a : Line) → Each P l → P a → Each P (l ++ (a ∷ []))
 each-snoc P [] a h p = (p, tt)
@@ -75,12 +81,12 @@ module _ (N : ℤ → Type 0) (L : ℕ → Type 0) (s : State) (h : Holds N L s)
       values-all Keeps (s .stack) k tt (λ a b rest e.
       let g : Each (EntryHas N L) (value a ∷ value b ∷ rest) = rw e at (h .stack) in f a b rest (g .0) (g .1 .0) (g .1 .1))
 
-  frame-keeps : (k : Atom → List Entry → Request)
+  frame-keeps : (returns : Bool) (es : List Entry) → Each (EntryHas N L) es → (k : Atom → List Entry → Request)
       → ((a : Atom) (rest : List Entry) → AtomHas N L a → Each (EntryHas N L) rest → Keeps (k a rest))
-      → Keeps (withFrame (s .stack) k)
-  frame-keeps k f =
-      frame-all Keeps (s .stack) k tt (λ a rest e.
-      let g : Each (EntryHas N L) (frame a ∷ rest) = rw e at (h .stack) in f a rest (g .0) (g .1))
+      → Keeps (withFrame returns es k)
+  frame-keeps returns es hs k f =
+      frame-all Keeps returns es k tt tt (λ a rest e.
+      let g : Each (EntryHas N L) (frame returns a ∷ rest) = rw e at hs in f a rest (g .0) (g .1))
 
   cell-keeps : (z : ℤ) (k : ℕ → Atom → Request)
       → ((i : ℕ) (c : Atom) → AtomHas N L c → Keeps (k i c)) → Keeps (withCell (s .memory) z k)
@@ -124,6 +130,15 @@ module _ (N : ℤ → Type 0) (L : ℕ → Type 0) (s : State) (h : Holds N L s)
             (λ x b. tt),
       ))
 
+  calling-keeps : (c : Command) (n results : ℕ) → Brings N c s → Keeps (calling s n results)
+  calling-keeps c n results new =
+      value-keeps _ (λ a below ha hs. arguments-all Keeps n below _ tt (λ arguments rest v e. (
+        ha .1,
+        tt,
+        tt,
+        λ p r hp hr. moved (ha .0, hp) (each-insert (EntryHas N L) arguments rest _ (new .following, hr) (rw e at hs)),
+      )))
+
   request-keeps : (env : Environment) (c : Command) → Brings N c s → Keeps (request env c s)
   unfolding request
   request-keeps env Add new = making-keeps Add _ sum new
@@ -161,10 +176,14 @@ module _ (N : ℤ → Type 0) (L : ℕ → Type 0) (s : State) (h : Holds N L s)
         λ p r hp hr.
             moved (branch-has (a .number) n (new .following) (new .branched n refl), hp) hs,
       ))
-  request-keeps env Call new =
-      values-keeps _ (λ a b rest ha hb hs. (ha .1, tt, tt, λ p r hp hr. moved (ha .0, hp) (hb, ((new .following, hr), hs))))
-  request-keeps env Ret new = frame-keeps _ (λ a rest ha hs. (ha .1, tt, tt, λ p r hp hr. moved (ha .0, hp) hs))
+  request-keeps env Call new = calling-keeps Call 1 0 new
+  request-keeps env Ret new =
+      frame-keeps false (s .stack) (h .stack) _ (λ a rest ha hs. (ha .1, tt, tt, λ p r hp hr. moved (ha .0, hp) hs))
   request-keeps env (OutputTo page) new = outputting-keeps env (OutputTo page) page new
+  request-keeps env (CallN z) new = calling-keeps (CallN z) (argumentsOf z) (resultsOf z) new
+  request-keeps env RetV new =
+      value-keeps _ (λ v below hv hs. frame-keeps true below hs _ (λ a rest ha hr.
+      (hv .1, ha .1, tt, λ p r hp hl. moved (ha .0, hp) ((hv .0, hl), hr))))
 
 -- the end line has the number 0 and the place label
 closed-holds : (N : ℤ → Type 0) (L : ℕ → Type 0) → N (pos 0) → (s : State) → Holds N L s → Holds N L (closed s)
@@ -270,6 +289,8 @@ rule-range bnz p l1 l2 l3 hp h1 h2 h3 = (search ranges, search ranges)
 rule-range call p l1 l2 l3 hp h1 h2 h3 = (search ranges, search ranges)
 rule-range ret p l1 l2 l3 hp h1 h2 h3 = (search ranges, search ranges)
 rule-range outputTo p l1 l2 l3 hp h1 h2 h3 = (search ranges, search ranges)
+rule-range callN p l1 l2 l3 hp h1 h2 h3 = (search ranges, search ranges)
+rule-range retV p l1 l2 l3 hp h1 h2 h3 = (search ranges, search ranges)
 
 pub standard-range : Answers InRange standard
 unfolding standard

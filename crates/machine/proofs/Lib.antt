@@ -13,3 +13,4 @@ pub mod End
 pub mod Lines
 pub mod Page
 pub mod Clearance
+pub mod Call

@@ -1,25 +1,27 @@
 -- What holds of every line that a run writes.
 -- Assumes nothing.
 use mathlib.Core.Path.{_≡_}
-use mathlib.Core.Bool.{true}
+use mathlib.Core.Bool.{true, false}
 use mathlib.Core.List.{List}
 use Prim.Native.Nat.{ℕ}
 use lib.IntN.{ℤ, _+ℤ_, _-ℤ_}
 use lib.Dec.{ltb}
 use lib.ListN.{length}
 use Rattle.program.specs.declared.Command.{Command}
-use Rattle.program.specs.declared.Command.the-variants.{Add, Sub, Pop, Output, Push, Load, Store, Jump, Bnz, Call, Ret, OutputTo}
+use Rattle.program.specs.Command.{argumentsOf, resultsOf}
+use Rattle.program.specs.declared.Command.the-variants.{Add, Sub, Pop, Output, Push, Load, Store, Jump, Bnz, Call, Ret, OutputTo, CallN, RetV}
 use Rattle.word.specs.Exact.{isSigned}
 use Rattle.machine.specs.Atom.{Line, numberLine, endLine}
 use Rattle.machine.specs.Rule.{Verdict, denied, allowed, Policy, Ruler, rules}
 use Rattle.machine.specs.State.{State, overflow, stackFull}
 use Rattle.machine.specs.Environment.{Environment, cleared}
-use Rattle.machine.specs.Step.{Request, halt, ask, stackLimit, keyOf, decide, consult, making, outputting, request, execute}
+use Rattle.machine.specs.Step.{Request, halt, ask, stackLimit, keyOf, decide, consult, making, outputting, calling, request}
+use Rattle.machine.specs.Step.{execute}
 use Rattle.machine.specs.Run.{run}
 use Rattle.machine.specs.Stopped.{CommandAt, Writes, plain, to}
 use Rattle.machine.specs.Holds.{Each}
 use Rattle.machine.proofs.Barrier.{barrier-held, barred-none, barred-all}
-use Rattle.machine.proofs.Request.{value-all, values-all, frame-all, cell-all, provided-all}
+use Rattle.machine.proofs.Request.{value-all, values-all, arguments-all, frame-all, cell-all, provided-all}
 use Rattle.machine.proofs.Step.{Gives, gives-stepped, step-all, run-keeps}
 use Rattle.machine.proofs.Holds.{each-snoc}
 
@@ -45,6 +47,10 @@ module _ (P : Line → Type 0) where
         barred-all env (length (s .lines)) _ (Gives Lines) _
         (λ t g. each-snoc P (s .lines) _ h (f (a .number) r t)) (λ x t. tt))
 
+    calling-lines : (n results : ℕ) → Keeps (calling s n results)
+    calling-lines n results =
+        value-all Keeps (s .stack) _ tt (λ a below e. arguments-all Keeps n below _ tt (λ arguments rest v g p r. h))
+
     request-lines : (env : Environment) (c : Command)
         → ((page : ℤ) → Writes c page → (n : ℤ) (l : ℕ) → cleared env (numberLine page n l) ≡ true → P (numberLine page n l))
         → Keeps (request env c s)
@@ -60,9 +66,12 @@ module _ (P : Line → Type 0) where
         values-all Keeps (s .stack) _ tt (λ a b rest e. cell-all Keeps (s .memory) (a .number) _ tt (λ i c g at p r. h))
     request-lines env Jump f = value-all Keeps (s .stack) _ tt (λ a rest e p r. h)
     request-lines env (Bnz n) f = value-all Keeps (s .stack) _ tt (λ a rest e p r. h)
-    request-lines env Call f = values-all Keeps (s .stack) _ tt (λ a b rest e p r. h)
-    request-lines env Ret f = frame-all Keeps (s .stack) _ tt (λ a rest e p r. h)
+    request-lines env Call f = calling-lines 1 0
+    request-lines env Ret f = frame-all Keeps false (s .stack) _ tt tt (λ a rest e p r. h)
     request-lines env (OutputTo page) f = outputting-lines env page (f page to)
+    request-lines env (CallN z) f = calling-lines (argumentsOf z) (resultsOf z)
+    request-lines env RetV f =
+        value-all Keeps (s .stack) _ tt (λ v below e. frame-all Keeps true below _ tt tt (λ a rest g p r. h))
 
     consult-lines : (π : Policy) (c : Command) (q : Request) → Keeps q → Gives Lines (consult π c s q)
     consult-lines π c (halt x) g = tt

@@ -4,6 +4,11 @@
 -- here, each step of a run leaves what is seen of its state or moves it as that machine does. So what is seen of two
 -- runs from alike cells is the same view after some number of moves each, and moves only add lines. Of labels it uses
 -- that a join flows where both sides do, that the empty label flows everywhere, and that flowing is transitive.
+-- While the place is not seen, the view's stack is cut down to its topmost visible frame, and all that can be seen is the
+-- return to it. Which return it is, Ret or RetV, is hidden, and one leaves a value where the other leaves none: so the view
+-- after it must not depend on that. It does not, since that frame decides: a return is carried out only if it gives what
+-- the frame owes, and the frame was made where its place was seen. This is what stop 11 is for; without it the two would
+-- leave stacks of different depth under one view, and what is printed next would tell them apart.
 -- Assumes nothing.
 mod Seen
 mod Erasure

@@ -23,7 +23,7 @@ use Rattle.machine.specs.Stopped.{Counted, CommandAt, NoCommandAt, Stopp
 use Rattle.machine.proofs.Step.{step-all, run-induction, run-keeps}
 use Rattle.machine.proofs.Barrier.{Barred, full, barrier-held, barred-none, barred-least, barred-other}
 use Rattle.machine.proofs.Barrier as Barrier
-use Rattle.machine.proofs.Execute.{Change, Cause, no-value, no-frame, no-cell, no-leave, no-number, no-env, no-line}
+use Rattle.machine.proofs.Execute.{Change, Cause, no-value, no-frame, no-return, no-cell, no-leave, no-number, no-env, no-line}
 use Rattle.machine.proofs.Execute.{Sound, execute-sound}
 
 -- ════════════════════════════════════════════════════════════════════════════════════════════
@@ -60,6 +60,7 @@ module _ (π : Policy) (env : Environment) (cs : List Command) where
   halt-number (outside h) = omega arith
   halt-number (inside c at (no-value h)) = omega arith
   halt-number (inside c at (no-frame h)) = omega arith
+  halt-number (inside c at (no-return h)) = omega arith
   halt-number (inside c at (no-cell h)) = omega arith
   halt-number (inside c at (no-leave h)) = omega arith
   halt-number (inside c at (no-number h)) = omega arith
@@ -77,6 +78,7 @@ module _ (π : Policy) (env : Environment) (cs : List Command) where
   halt-stopped e (outside h) = (h, e)
   halt-stopped e (inside c at (no-value h)) = (c, at, h)
   halt-stopped e (inside c at (no-frame h)) = (c, at, h)
+  halt-stopped e (inside c at (no-return h)) = (c, at, h)
   halt-stopped e (inside c at (no-cell h)) = (c, at, h)
   halt-stopped e (inside c at (no-leave h)) = (c, at, h)
   halt-stopped e (inside c at (no-number h)) = (c, at, h)

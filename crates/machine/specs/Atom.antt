@@ -1,5 +1,6 @@
 -- Atoms, stack entries and output lines.
 use Prim.Native.Nat.{ℕ}
+use mathlib.Core.Bool.{Bool}
 use lib.IntN.{ℤ, pos}
 use Rattle.machine.specs.declared.Kind.{Kind}
 use Rattle.machine.specs.declared.Kind.the-variants.{Number, End}
@@ -9,10 +10,10 @@ pub record Atom : Type 0 where
   pub number : ℤ
   pub label : ℕ
 
--- a stack entry: a value, or a return frame, which is an atom that was a place
+-- a stack entry: a value, or a return frame, which is an atom that was a place; request U6: a frame knows whether a result is due
 pub data Entry : Type 0 where
   value : Atom → Entry
-  frame : Atom → Entry
+  frame : Bool → Atom → Entry
 
 -- a line: its page, which is 0 to 15, its kind, its number and its label; two lines are equal exactly if all four are
 pub record Line : Type 0 where

@@ -27,7 +27,7 @@ module _ (N : ℤ → Type 0) (L : ℕ → Type 0) where
 
   abbrev pub EntryHas : Entry → Type 0
   EntryHas (value a) = AtomHas a
-  EntryHas (frame a) = AtomHas a
+  EntryHas (frame owes a) = AtomHas a
 
   abbrev pub LineHas : Line → Type 0
   LineHas l = N (l .number) × L (l .label)

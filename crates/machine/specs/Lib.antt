@@ -11,3 +11,4 @@ pub mod Claim
 pub mod End
 pub mod Page
 pub mod Clearance
+pub mod Call

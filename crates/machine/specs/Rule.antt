@@ -3,7 +3,7 @@ use Prim.Native.Nat.{ℕ}
 use mathlib.Core.Bool.{Bool, true, false}
 use lib.IntN.{ℤ, pos, negsuc}
 use Rattle.label.specs.Label.{bottom, join, flows}
-use Rattle.program.specs.Command.{Opcode, add, sub, pop, output, push, load, store, jump, bnz, call, ret, outputTo}
+use Rattle.program.specs.Command.{Opcode, add, sub, pop, output, push, load, store, jump, bnz, call, ret, outputTo, callN, retV}
 
 -- an input of a command: its label, or the mark of a missing input
 pub data Input : Type 0 where
@@ -56,7 +56,7 @@ abbrev pub allowedIf : Bool → ℕ → ℕ → Verdict
 allowedIf true p r = allowed p r
 allowedIf false p r = denied
 
--- the standard table, as document 01 writes it: P, then L1 to L3; OutputTo is under Output's rule
+-- the standard table, as document 01 writes it: P, then L1 to L3; OutputTo is under Output's rule, CallN under Call's
 abbrev pub rule : Opcode → ℕ → ℕ → ℕ → ℕ → Verdict
 rule add p l1 l2 l3 = allowed p (join l1 l2)
 rule sub p l1 l2 l3 = allowed p (join l1 l2)
@@ -70,6 +70,8 @@ rule bnz p l1 l2 l3 = allowed (join l1 p) bottom
 rule call p l1 l2 l3 = allowed (join l1 p) p
 rule ret p l1 l2 l3 = allowed l1 bottom
 rule outputTo p l1 l2 l3 = allowed p (join l1 p)
+rule callN p l1 l2 l3 = allowed (join l1 p) p
+rule retV p l1 l2 l3 = allowed l2 (join l1 p)
 
 unfoldable pub standard : Policy
 standard k = rule (k .opcode) (k .pc) (labelOf (k .input1)) (labelOf (k .input2)) (labelOf (k .input3))

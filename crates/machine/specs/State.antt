@@ -23,9 +23,9 @@ start cells = record { pc = record { number = pos 0; label = bottom }; stack = [
 
 -- the stops, in the order in which they are tested
 pub data Stop : Type 0 where
-  end fuelSpent pcOutside valueMissing frameMissing addressOutside denial notCleared overflow stackFull outputFull : Stop
+  end fuelSpent pcOutside valueMissing frameMissing wrongReturn addressOutside denial notCleared overflow stackFull outputFull : Stop
 
--- their numbers: document 01's, 9 of request U2 and 10 of U5
+-- their numbers: document 01's, 9 of request U2, 10 of U5 and 11 of U6
 abbrev pub stopNumber : Stop → ℕ
 stopNumber end = 0
 stopNumber fuelSpent = 1
@@ -38,3 +38,4 @@ stopNumber stackFull = 7
 stopNumber outputFull = 8
 stopNumber overflow = 9
 stopNumber notCleared = 10
+stopNumber wrongReturn = 11

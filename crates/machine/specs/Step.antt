@@ -8,11 +8,12 @@ use lib.ListN.{length, set}
 use lib.Dec.{ltb}
 use Rattle.word.specs.Exact.{isSigned}
 use Rattle.program.specs.declared.Command.{Command}
-use Rattle.program.specs.declared.Command.the-variants.{Add, Sub, Pop, Output, Push, Load, Store, Jump, Bnz, Call, Ret, OutputTo}
-use Rattle.program.specs.Command.{opcode}
+use Rattle.program.specs.declared.Command.the-variants.{Add, Sub, Pop, Output, Push, Load, Store, Jump, Bnz, Call, Ret, OutputTo, CallN, RetV}
+use Rattle.program.specs.Command.{opcode, argumentsOf, resultsOf}
 use Rattle.machine.specs.Atom.{Atom, Entry, value, frame, Line, numberLine}
 use Rattle.machine.specs.Rule.{Input, present, missing, Key, Verdict, denied, allowed, Policy}
-use Rattle.machine.specs.State.{State, Stop, valueMissing, frameMissing, addressOutside, denial, overflow, stackFull}
+use Rattle.machine.specs.State.{State, Stop, valueMissing, frameMissing, wrongReturn, addressOutside, denial}
+use Rattle.machine.specs.State.{overflow, stackFull}
 use Rattle.machine.specs.Environment.{Environment, barrier}
 
 -- the largest number of stack entries
@@ -38,17 +39,29 @@ pub data Request : Type 0 where
 abbrev pub withValue : List Entry → (Atom → List Entry → Request) → Request
 withValue [] k = halt valueMissing
 withValue (value a ∷ rest) k = k a rest
-withValue (frame a ∷ rest) k = halt valueMissing
+withValue (frame owes a ∷ rest) k = halt valueMissing
 
 -- two values on top
 abbrev pub withValues : List Entry → (Atom → Atom → List Entry → Request) → Request
 withValues s k = withValue s (λ top below. withValue below (λ next rest. k top next rest))
 
--- a frame on top
-abbrev pub withFrame : List Entry → (Atom → List Entry → Request) → Request
-withFrame [] k = halt frameMissing
-withFrame (value a ∷ rest) k = halt frameMissing
-withFrame (frame a ∷ rest) k = k a rest
+-- so many values on top, the arguments of a call
+abbrev pub withArguments : ℕ → List Entry → (List Entry → List Entry → Request) → Request
+withArguments zero s k = k [] s
+withArguments (suc n) s k = withValue s (λ a below. withArguments n below (λ arguments rest. k (value a ∷ arguments) rest))
+
+-- a frame that owes what is returned: a result, or none
+abbrev pub matching : (returns owes : Bool) → Request → Request
+matching true true q = q
+matching true false q = halt wrongReturn
+matching false true q = halt wrongReturn
+matching false false q = q
+
+-- a frame on top, for a return with a result or without
+abbrev pub withFrame : (returns : Bool) → List Entry → (Atom → List Entry → Request) → Request
+withFrame returns [] k = halt frameMissing
+withFrame returns (value a ∷ rest) k = halt frameMissing
+withFrame returns (frame owes a ∷ rest) k = matching returns owes (k a rest)
 
 -- a cell at an address
 abbrev pub withElement : List Atom → ℕ → (Atom → Request) → Request
@@ -138,6 +151,14 @@ outputting env s page =
     let line = numberLine page (a .number) r in
     unlessBarred (barrier env (length (s .lines)) line) (printing s p rest line)))
 
+-- Call and CallN: so many arguments stay, in their order, above the frame, to which so many results are due
+abbrev pub calling : State → (arguments results : ℕ) → Request
+calling s n results =
+    withValue (s .stack) (λ a below.
+    withArguments n below (λ arguments rest.
+    ask (of a) missing missing (λ p r.
+    goto s (atom (a .number) p) (arguments ++ (frame (ltb 0 results) (atom (s .pc .number +ℤ pos 1) r) ∷ rest)))))
+
 -- what each command comes to
 unfoldable pub request : Environment → Command → State → Request
 request env Add s = making s _+ℤ_
@@ -164,14 +185,16 @@ request env Jump s =
 request env (Bnz n) s =
     withValue (s .stack) (λ a rest.
     ask (of a) missing missing (λ p r. goto s (atom (branch (a .number) (s .pc .number) n) p) rest))
-request env Call s =
-    withValues (s .stack) (λ a b rest.
-    ask (of a) missing missing (λ p r.
-    goto s (atom (a .number) p) (value b ∷ frame (atom (s .pc .number +ℤ pos 1) r) ∷ rest)))
+request env Call s = calling s 1 0
 request env Ret s =
-    withFrame (s .stack) (λ a rest.
+    withFrame false (s .stack) (λ a rest.
     ask (of a) missing missing (λ p r. goto s (atom (a .number) p) rest))
 request env (OutputTo page) s = outputting env s page
+request env (CallN z) s = calling s (argumentsOf z) (resultsOf z)
+request env RetV s =
+    withValue (s .stack) (λ v below.
+    withFrame true below (λ a rest.
+    ask (of v) (of a) missing (λ p r. goto s (atom (a .number) p) (value (atom (v .number) r) ∷ rest))))
 
 -- the rule's answer decides
 abbrev pub decide : Verdict → (ℕ → ℕ → Outcome) → Outcome

@@ -15,7 +15,7 @@ use Rattle.program.specs.declared.Command.the-variants.{Add, Sub, Output, Outpu
 use Rattle.program.specs.Command.{opcode, push}
 use Rattle.machine.specs.Atom.{Atom, Entry, value, Line, numberLine, endLine}
 use Rattle.machine.specs.Rule.{Policy, missing, denied, allowed}
-use Rattle.machine.specs.State.{State, Stop, end, fuelSpent, pcOutside, valueMissing, frameMissing}
+use Rattle.machine.specs.State.{State, Stop, end, fuelSpent, pcOutside, valueMissing, frameMissing, wrongReturn}
 use Rattle.machine.specs.State.{addressOutside, denial, notCleared, overflow, stackFull, outputFull, stopNumber}
 use Rattle.machine.specs.Environment.{Environment, cleared}
 use Rattle.machine.specs.Step.{Request, halt, ask, request, of, keyOf, stackLimit}
@@ -100,6 +100,7 @@ Stopped π env cs s fuelSpent = AtTheEnd cs s → ⊥
 Stopped π env cs s pcOutside = NoCommandAt cs (s .pc .number) × (AtTheEnd cs s → ⊥)
 Stopped π env cs s valueMissing = Here cs s (λ c. request env c s ≡ halt valueMissing)
 Stopped π env cs s frameMissing = Here cs s (λ c. request env c s ≡ halt frameMissing)
+Stopped π env cs s wrongReturn = Here cs s (λ c. request env c s ≡ halt wrongReturn)
 Stopped π env cs s addressOutside = Here cs s (λ c. request env c s ≡ halt addressOutside)
 Stopped π env cs s denial = Here cs s (λ c. Denied π c s (request env c s))
 Stopped π env cs s notCleared = (l : Line) × Due π cs s l × (cleared env l ≡ false)

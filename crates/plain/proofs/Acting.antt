@@ -18,7 +18,7 @@ use Rattle.step.specs.Effect.{effectOf}
 use Rattle.engine.specs.Act.{ruled, ruling, actFound, actOf}
 use Rattle.plain.specs.Ruler.{standardBy, standardRuler}
 
-module _ (word operand : ℤ) (m : Machine) (l : Lent) (i : Inputs) (found : i ≡ findOf (residue 64 word) m l) where
+module _ (word operand : ℤ) (m : Machine) (l : Lent) (i : Inputs) (found : i ≡ findOf (residue 64 word) operand m l) where
   abbrev acts : After
   acts = actOf standardRuler word operand m tt l .after
 

@@ -2,7 +2,8 @@
 -- Assumes nothing.
 use mathlib.Core.Path.{_≡_, refl}
 use Prim.Native.Nat.{ℕ}
-use Rattle.program.specs.Command.{Opcode, add, sub, pop, output, push, load, store, jump, bnz, call, ret, outputTo, codeOf}
+use Rattle.program.specs.Command.{Opcode, add, sub, pop, output, push, load, store, jump, bnz, call, ret, outputTo, callN, retV}
+use Rattle.program.specs.Command.{codeOf}
 use Rattle.program.proofs.Codes.{code-residue}
 use Rattle.machine.specs.Rule.{rule, standard, fixed}
 use Rattle.engine.proofs.Act.{Follows}
@@ -22,6 +23,8 @@ rule-is bnz p l1 l2 l3 = refl
 rule-is call p l1 l2 l3 = refl
 rule-is ret p l1 l2 l3 = refl
 rule-is outputTo p l1 l2 l3 = refl
+rule-is callN p l1 l2 l3 = refl
+rule-is retV p l1 l2 l3 = refl
 
 pub standard-follows : Follows standardRuler (fixed standard)
 unfolding standard

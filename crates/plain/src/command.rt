@@ -11,7 +11,7 @@ ghost use lib.IntN.{ℤ};
 ghost use Rattle.word.specs.Wrap.{residue};
 ghost use Rattle.step.specs.Lent.{Cells, cells, lent, after};
 ghost use Rattle.engine.specs.Act.{actOf};
-ghost use Rattle.plain.specs.Ruler.{standardRuler, PrintsTo};
+ghost use Rattle.plain.specs.Ruler.{standardRuler, PrintsTo, CallsWith};
 
 // Add and Sub: P; L1+L2.
 fn arith(code: u64, m: Machine, stack: &mut [i64]) -> Stepped
@@ -112,16 +112,24 @@ fn bnz(operand: i64, m: Machine, stack: &[i64]) -> Stepped
     effect::bnz(found.input1.join(m.label), m, operand, stack)
 }
 
-// Call: L1+P; P labels the frame.
-fn call(m: Machine, stack: &mut [i64]) -> Stepped
-    ensures { λ r. ⌜ ((word operand : ℤ) (c : Cells) → residue 64 word ≡ 10 → after r (lent (now (stack .exit)) c)
+// Call and CallN: L1+P; P labels the frame.
+fn call(arguments: usize, kind: i64, m: Machine, stack: &mut [i64]) -> Stepped
+    ensures { λ r. ⌜ ((word operand : ℤ) (c : Cells) → CallsWith (residue 64 word) operand arguments kind
+        → after r (lent (now (stack .exit)) c)
         ≡ actOf standardRuler word operand m tt (lent (now (stack .entry)) c) .after) ⌝ }
 {
-    let found = find::call_values(m, stack);
+    let found = find::call_values(m, arguments, stack);
     if found.stop != CARRIED {
         return stack::stopped(m, found.stop);
     }
-    effect::call(found.input1.join(m.label), m.label, m, stack)
+    effect::call(
+        found.input1.join(m.label),
+        m.label,
+        m,
+        arguments,
+        kind,
+        stack,
+    )
 }
 
 // Ret: L1, the frame's.
@@ -134,6 +142,28 @@ fn ret(m: Machine, stack: &[i64]) -> Stepped
         return stack::stopped(m, found.stop);
     }
     effect::jump(found.input1, m, stack)
+}
+
+// CallN: the counts of its operand.
+fn call_n(operand: i64, m: Machine, stack: &mut [i64]) -> Stepped
+    ensures { λ r. ⌜ ((word : ℤ) (c : Cells) → residue 64 word ≡ 13 → after r (lent (now (stack .exit)) c)
+        ≡ actOf standardRuler word operand m tt (lent (now (stack .entry)) c) .after) ⌝ }
+{
+    let arguments = program::arguments_of(operand) as usize;
+    let kind = effect::frame_kind(program::results_of(operand));
+    call(arguments, kind, m, stack)
+}
+
+// RetV: L2, the frame's; L1+P labels the value.
+fn ret_v(m: Machine, stack: &mut [i64]) -> Stepped
+    ensures { λ r. ⌜ ((word operand : ℤ) (c : Cells) → 13 < residue 64 word → after r (lent (now (stack .exit)) c)
+        ≡ actOf standardRuler word operand m tt (lent (now (stack .entry)) c) .after) ⌝ }
+{
+    let found = find::value_and_frame(m, stack);
+    if found.stop != CARRIED {
+        return stack::stopped(m, found.stop);
+    }
+    effect::return_value(found.input2, found.input1.join(m.label), m, stack)
 }
 
 // By the command's code word, chosen by a tree of tests.
@@ -170,11 +200,17 @@ pub(crate) fn act(
     if 9 < code {
         if code < 12 {
             if code == 10 {
-                return call(m, stack);
+                return call(1, 1, m, stack);
             }
             return ret(m, stack);
         }
-        return output(operand, m, stack);
+        if code < 14 {
+            if code == 12 {
+                return output(operand, m, stack);
+            }
+            return call_n(operand, m, stack);
+        }
+        return ret_v(m, stack);
     }
     if code == 8 {
         return jump(m, stack);

@@ -6,3 +6,4 @@ pub mod Standard
 pub mod Rows
 pub mod Hits
 pub mod Readings
+pub mod Before

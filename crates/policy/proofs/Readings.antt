@@ -1,4 +1,5 @@
--- Document 01's readings R11 and R12, computed: which rule memories are accepted under the standard table; and so for the rows of OutputTo.
+-- Document 01's readings R11 and R12, computed: which rule memories are accepted under the standard table; and so for the rows of
+-- OutputTo, CallN and RetV.
 -- Assumes nothing.
 use mathlib.Core.Path.{_≡_, sym, ap, _∙_}
 use mathlib.Core.Bool.{true, false}
@@ -34,7 +35,7 @@ pub r4-pair : rowAnswer (readTable standardBytes) (pos 7 ∷ pos 1 ∷ pos 0 ∷
 unfolding acceptedRow evaluate standardTable stored opcodeOf join flows union subset
 r4-pair = rw standard-read
 
--- OutputTo is under Output's rule: of a label 2 at the place label 1 the line's label is 3. Its own rows have the code 12; 13 is no code
+-- OutputTo is under Output's rule: of a label 2 at the place label 1 the line's label is 3. Its own rows have the code 12; 15 is no code
 abbrev outputRow : ℕ → List ℤ
 outputRow code = pos code ∷ pos 1 ∷ pos 2 ∷ negsuc 0 ∷ negsuc 0 ∷ pos 1 ∷ pos 3 ∷ []
 
@@ -42,9 +43,19 @@ pub output-to-row : rowAnswer (readTable standardBytes) (outputRow 12) ≡ true
 unfolding acceptedRow evaluate standardTable stored opcodeOf join flows union subset
 output-to-row = rw standard-read
 
-pub unknown-row : rowAnswer (readTable standardBytes) (outputRow 13) ≡ false
+pub unknown-row : rowAnswer (readTable standardBytes) (outputRow 15) ≡ false
 unfolding acceptedRow evaluate standardTable stored opcodeOf join flows union subset
 unknown-row = rw standard-read
+
+-- CallN is under Call's rule: of a target of label 2 at the place label 1 the place has then the label 3, the frame the label 1
+pub call-n-row : rowAnswer (readTable standardBytes) (pos 13 ∷ pos 1 ∷ pos 2 ∷ negsuc 0 ∷ negsuc 0 ∷ pos 3 ∷ pos 1 ∷ []) ≡ true
+unfolding acceptedRow evaluate standardTable stored opcodeOf join flows union subset
+call-n-row = rw standard-read
+
+-- RetV has its own: of a value of label 2 over a frame of label 1, at the place label 3, the place has then the label 1, the value 3
+pub ret-v-row : rowAnswer (readTable standardBytes) (pos 14 ∷ pos 3 ∷ pos 2 ∷ pos 1 ∷ negsuc 0 ∷ pos 1 ∷ pos 3 ∷ []) ≡ true
+unfolding acceptedRow evaluate standardTable stored opcodeOf join flows union subset
+ret-v-row = rw standard-read
 
 -- no row is of two commands, even if they are under one rule
 pub row-command : (j k : Key) (p q r s : ℤ) → keyRow j p r ≡ keyRow k q s → j .opcode ≡ k .opcode

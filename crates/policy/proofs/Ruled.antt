@@ -1,17 +1,18 @@
--- The rule that a command is under belongs to a command that supplies as many inputs.
+-- The rule that a command is under belongs to a command that supplies as many inputs; and the code of the command that a rule belongs to.
 -- Assumes nothing.
-use mathlib.Core.Path.{_≡_, refl, ap, _∙_}
-use mathlib.Core.Bool.{Bool, false}
-use mathlib.Core.List.{List, [], _∷_, _++_}
+use mathlib.Core.Path.{_≡_, refl, sym, ap, _∙_}
+use mathlib.Core.Bool.{Bool, true, false, _&&_}
+use mathlib.Core.List.{List, [], _∷_}
 use mathlib.Core.Option.{Option, none, some}
 use Prim.Native.Nat.{ℕ, zero, suc, _+_, _<_}
 use native.Mathlib.Omega.{arith}
 use native.Mathlib.Numerals.{add-one}
 use lib.Dec.{T, eqb, leb, eqb→eq, leb→le}
 use lib.ListN.{getElem?}
-use Rattle.program.specs.Command.{Opcode, outputTo, opcodes, ruled, opcodeOf, supplies, ruleNumber}
-use Rattle.program.proofs.Codes.{opcode-all}
-use Rattle.policy.specs.Read.{ruleCount}
+use Rattle.program.specs.Command.{Opcode, opcodes, ruled, opcodeOf, codeOf, supplies, ruleNumber}
+use Rattle.word.proofs.Bool.{and-left, and-right}
+use Rattle.program.proofs.Codes.{opcodeOf-codeOf, opcode-all}
+use Rattle.policy.specs.Read.{ruleCount, ownerCode}
 
 -- the command whose rule it is
 pub record Under (o : Opcode) : Type 0 where
@@ -42,11 +43,26 @@ pub opcodes-next : (i : ℕ) (o : Opcode) → getElem? opcodes i ≡ some o → 
 unfolding opcodeOf
 opcodes-next i o e = rw (add-one i) e
 
-element-append : {A : Type 0} (l m : List A) (i : ℕ) (a : A) → getElem? l i ≡ some a → getElem? (l ++ m) i ≡ some a
-element-append [] m i a e = absurd (let z : _≡_ {A = ℕ} 0 1 = cc in omega arith)
-element-append (x ∷ l) m zero a e = e
-element-append (x ∷ l) m (suc i) a e = element-append l m i a e
+-- the commands of a list have the rules from i on
+abbrev owning : ℕ → List Opcode → Bool
+owning i [] = true
+owning i (o ∷ os) = eqb (codeOf o) (ownerCode i) && owning (suc i) os
 
--- the commands that have rules of their own are those with the first codes
-pub ruled-code : (i : ℕ) (o : Opcode) → getElem? ruled i ≡ some o → opcodeOf (i + 1) ≡ some o
-ruled-code i o e = opcodes-next i o (element-append ruled (outputTo ∷ []) i o e)
+element-owning : (i : ℕ) (os : List Opcode) → T (owning i os) → (k : ℕ) (o : Opcode) → getElem? os k ≡ some o → codeOf o ≡ ownerCode (i + k)
+element-owning i [] t k o e = absurd (let z : _≡_ {A = ℕ} 0 1 = cc in omega arith)
+element-owning i (x ∷ os) t zero o e =
+    let d : x ≡ o = cc in
+    let h = eqb→eq (codeOf x) (ownerCode i) (and-left (eqb (codeOf x) (ownerCode i)) (owning (suc i) os) t) in
+    let n : i + 0 ≡ i = omega arith in
+    ap codeOf (sym d) ∙ h ∙ ap ownerCode (sym n)
+element-owning i (x ∷ os) t (suc k) o e =
+    let n : suc i + k ≡ i + suc k = omega arith in
+    element-owning (suc i) os (and-right (eqb (codeOf x) (ownerCode i)) (owning (suc i) os) t) k o e ∙ ap ownerCode n
+
+-- the command that has a rule, by its number: its code, and what is found under that code
+pub ruled-owner : (i : ℕ) (o : Opcode) → getElem? ruled i ≡ some o → codeOf o ≡ ownerCode i
+unfolding ownerCode
+ruled-owner i o e = let n : 0 + i ≡ i = omega arith in element-owning 0 ruled tt i o e ∙ ap ownerCode n
+
+pub ruled-code : (i : ℕ) (o : Opcode) → getElem? ruled i ≡ some o → opcodeOf (ownerCode i) ≡ some o
+ruled-code i o e = ap opcodeOf (sym (ruled-owner i o e)) ∙ opcodeOf-codeOf o

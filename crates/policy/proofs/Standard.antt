@@ -1,7 +1,7 @@
 -- The standard table: its bytes are read as it, and it says what the standard policy says, for every key.
 -- Assumes nothing.
 use mathlib.Core.Path.{_≡_, refl}
-use Rattle.program.specs.Command.{Opcode, add, sub, pop, output, push, load, store, jump, bnz, call, ret, outputTo}
+use Rattle.program.specs.Command.{Opcode, add, sub, pop, output, push, load, store, jump, bnz, call, ret, outputTo, callN, retV}
 use Rattle.machine.specs.Rule.{Input, Key, standard}
 use Prim.Native.Nat.{ℕ}
 use Rattle.policy.specs.Token.{tokenOf, tokenAt}
@@ -34,6 +34,8 @@ by-opcode bnz p i1 i2 i3 = refl
 by-opcode call p i1 i2 i3 = refl
 by-opcode ret p i1 i2 i3 = refl
 by-opcode outputTo p i1 i2 i3 = refl
+by-opcode callN p i1 i2 i3 = refl
+by-opcode retV p i1 i2 i3 = refl
 
 -- reading the standard table directly is the standard policy
 pub evaluate-standard : (k : Key) → evaluate standardTable k ≡ standard k

@@ -19,6 +19,6 @@ pub record Rule : Type 0 where
   pub pc : LabelExpr
   pub result : LabelExpr
 
--- a rule table: the rules of the commands that have one of their own, in the order of their codes, from 01 to 0b
+-- a rule table: the rules of the commands that have one of their own, in the order of their codes: from 01 to 0b, then 0e
 abbrev pub Table : Type 0
 Table = List Rule

@@ -7,7 +7,7 @@ use lib.Dec.{leb, ltb, eqb}
 use lib.ListN.{length, getElem?}
 use Rattle.program.specs.declared.Refusal.{Refusal}
 use Rattle.program.specs.Decode.{refusal}
-use Rattle.program.specs.Command.{Opcode, ruled, supplies, hasResult}
+use Rattle.program.specs.Command.{Opcode, ret, retV, ruled, codeOf, supplies, hasResult}
 use Rattle.policy.specs.declared.Token.{Token}
 use Rattle.policy.specs.declared.Token.the-variants.{Empty, Place, Input1, Input2, Input3, Join, Flows, True, And, Or, Nothing}
 use Rattle.policy.specs.Expression.{LabelExpr, empty, place, input1, input2, input3, join, Condition, flows, always, both}
@@ -104,6 +104,14 @@ prepend r (found rs end) = found (r ∷ rs) end
 -- a table has a rule for each command that has its own
 abbrev pub ruleCount : ℕ
 ruleCount = length ruled
+
+abbrev pub ownerIf : Bool → (rule : ℕ) → ℕ
+ownerIf true i = i + 1
+ownerIf false i = codeOf retV
+
+-- the code of the command that has the rule with a number: the first rules are those of the codes up to Ret's, the last is RetV's
+unfoldable pub ownerCode : (rule : ℕ) → ℕ
+ownerCode i = ownerIf (ltb i (codeOf ret)) i
 
 -- the rules of commands in order
 unfoldable pub readRules : List Opcode → List ℕ → (at : ℕ) → Read Table

@@ -26,6 +26,8 @@ standardBytes =
     ++ (0x17 ∷ 0x15 ∷ 0x12 ∷ 0x11 ∷ 0x11 ∷ [])
     -- Ret: allowed; L1; 0
     ++ (0x17 ∷ 0x12 ∷ 0x10 ∷ [])
+    -- RetV: allowed; L2; L1+P
+    ++ (0x17 ∷ 0x13 ∷ 0x15 ∷ 0x12 ∷ 0x11 ∷ [])
 
 -- the table that these bytes are read as
 abbrev pub ruleWith : Condition → LabelExpr → LabelExpr → Rule
@@ -44,4 +46,5 @@ standardTable =
     ∷ ruleWith always (join input1 place) empty
     ∷ ruleWith always (join input1 place) place
     ∷ ruleWith always input1 empty
+    ∷ ruleWith always input2 (join input1 place)
     ∷ []

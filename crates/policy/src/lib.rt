@@ -5,9 +5,11 @@ pub mod standard_table;
 
 ghost use mathlib.Core.Path.{_≡_};
 ghost use Rattle.policy.specs.Token.{tokenOf};
+ghost use Rattle.policy.specs.Read.{ownerCode};
+use program::code;
 
-// How many rules a table has: one for each command but OutputTo, which is under Output's.
-pub const RULES: u64 = 11;
+// How many rules a table has: one for each command but OutputTo, which is under Output's, and CallN, which is under Call's.
+pub const RULES: u64 = 12;
 
 // What a byte of a rule table stands for: an expression or an operator, or nothing.
 pub enum Token {
@@ -40,5 +42,16 @@ pub fn token_of(byte: u8) -> Token
         0x18 => Token::And,
         0x19 => Token::Or,
         _ => Token::Nothing,
+    }
+}
+
+// The code of the command that has the rule with a number: the first rules are those of the codes up to Ret's, the last is RetV's.
+pub fn owner(rule: u64) -> u64
+    ensures { λ r. ⌜ r ≡ ownerCode rule ⌝ }
+{
+    if rule < code::RET {
+        rule + 1
+    } else {
+        code::RET_V
     }
 }

@@ -3,7 +3,7 @@ ghost use mathlib.Core.Path.{_≡_};
 ghost use Rattle.policy.specs.Standard.{standardBytes};
 
 // Its bytes: for each rule allowed, place, result.
-pub fn bytes() -> [u8; 55]
+pub fn bytes() -> [u8; 60]
     ensures { λ r. ⌜ r ≡ standardBytes ⌝ }
 {
     [
@@ -73,5 +73,11 @@ pub fn bytes() -> [u8; 55]
         0x17,
         0x12,
         0x10,
+        // RetV
+        0x17,
+        0x13,
+        0x15,
+        0x12,
+        0x11,
     ]
 }

@@ -15,8 +15,8 @@ use Rattle.program.specs.declared.Checked.the-variants as Checked
 use Rattle.program.specs.declared.Fetched.the-variants.{Is, Unknown, Cut}
 use Rattle.program.specs.Decode.{Decoded, refused, accepted, refusal, prepend, decodeFrom, decode, commandLimit, checkAnswer}
 use Rattle.program.specs.Command.{opcodeOf}
-use Rattle.program.specs.Fetch.{permitsOf, fetchOf}
-use Rattle.program.proofs.Fetching.{Next, fetched-next, fetched-permits, decode-unknown, decode-cut, decode-next}
+use Rattle.program.specs.Fetch.{shapeOf, permitsOf, refusesOf, fetchOf}
+use Rattle.program.proofs.Fetching.{Next, fetched-next, fetched-permits, fetched-refuses, decode-unknown, decode-cut, decode-next}
 
 -- the answer, after k commands were counted
 abbrev pub counted : ℕ → Decoded → Checked
@@ -91,12 +91,14 @@ module _ (s : List ℕ) (at count : ℕ) (i : Invariant s at count) where
       pub invariant-forward : at < next
       invariant-forward = n .forward
 
-      -- what its code says of its operand
-      pub invariant-outside : permitsOf (opcodeOf (getD s at 0)) z ≡ false → Checked.Refused (refusal 12 at) ≡ checkAnswer (decode s)
+      -- what its code's shape says of its operand
+      pub invariant-outside : permitsOf (shapeOf (opcodeOf (getD s at 0))) z ≡ false
+          → Checked.Refused (refusal (refusesOf (shapeOf (opcodeOf (getD s at 0)))) at) ≡ checkAnswer (decode s)
       invariant-outside t =
-          ap (counted count) (sym (decode-next s at h left n false (sym (fetched-permits s at h n) ∙ t))) ∙ answer-suc
+          ap (λ k. Checked.Refused (refusal k at)) (fetched-refuses s at h n)
+          ∙ ap (counted count) (sym (decode-next s at h left n false (sym (fetched-permits s at h n) ∙ t))) ∙ answer-suc
 
-      pub invariant-next : permitsOf (opcodeOf (getD s at 0)) z ≡ true → Invariant s next (count + 1)
+      pub invariant-next : permitsOf (shapeOf (opcodeOf (getD s at 0))) z ≡ true → Invariant s next (count + 1)
       unfolding left
       invariant-next t =
           record {

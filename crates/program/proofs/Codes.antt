@@ -16,10 +16,11 @@ use Rattle.word.specs.Wrap.{residue}
 use Rattle.word.proofs.Bool.{and-left, and-right}
 use Rattle.program.specs.declared.Command.{Command}
 use Rattle.program.specs.declared.Command.the-variants.{Add, Sub, Pop, Output, Push, Load, Store, Jump, Bnz, Call, Ret, OutputTo}
+use Rattle.program.specs.declared.Command.the-variants.{CallN, RetV}
 use Rattle.program.specs.declared.Operand.{Operand}
-use Rattle.program.specs.declared.Operand.the-variants.{Signed, Page}
-use Rattle.program.specs.Command.{Opcode, add, sub, pop, output, push, load, store, jump, bnz, call, ret, outputTo, opcodes}
-use Rattle.program.specs.Command.{opcodeOf, codeOf, operandOf, operandWidth, opcode, operand, command}
+use Rattle.program.specs.declared.Operand.the-variants.{Signed, Page, Counts}
+use Rattle.program.specs.Command.{Opcode, add, sub, pop, output, push, load, store, jump, bnz, call, ret, outputTo, callN, retV}
+use Rattle.program.specs.Command.{opcodes, opcodeOf, codeOf, operandOf, operandWidth, opcode, operand, command}
 
 -- an opcode is found under its code
 pub opcodeOf-codeOf : (o : Opcode) → opcodeOf (codeOf o) ≡ some o
@@ -36,6 +37,8 @@ opcodeOf-codeOf bnz = refl
 opcodeOf-codeOf call = refl
 opcodeOf-codeOf ret = refl
 opcodeOf-codeOf outputTo = refl
+opcodeOf-codeOf callN = refl
+opcodeOf-codeOf retV = refl
 
 -- its index among the opcodes
 pub opcodes-code : (o : Opcode) → getElem? opcodes (codeOf o - 1) ≡ some o
@@ -78,6 +81,7 @@ code-residue o = mod-eq-of-lt (omega (arith, code-most o))
 abbrev width-known : Operand → Bool
 width-known (Signed w) = eqb w 8 || (eqb w 2 || eqb w 0)
 width-known Page = true
+width-known Counts = true
 
 pub width-none : (o : Opcode) (w : ℕ) → operandOf o ≡ Signed w → (w ≡ 8 → ⊥) → (w ≡ 2 → ⊥) → w ≡ 0
 width-none o w e f g = eqb→eq w 0 (rw (e, ne-eqb w 8 f, ne-eqb w 2 g) at (opcode-all (λ o. width-known (operandOf o)) tt o))
@@ -136,6 +140,8 @@ command-whole (Bnz z) = refl
 command-whole Call = refl
 command-whole Ret = refl
 command-whole (OutputTo z) = refl
+command-whole (CallN z) = refl
+command-whole RetV = refl
 
 -- an opcode and an operand make a command that has both, if the operand is 0 where there are no bytes for it
 abbrev Made : Opcode → ℤ → Type 0
@@ -154,6 +160,8 @@ made bnz z = (refl, λ h. refl)
 made call z = (refl, λ h. sym (h refl))
 made ret z = (refl, λ h. sym (h refl))
 made outputTo z = (refl, λ h. refl)
+made callN z = (refl, λ h. refl)
+made retV z = (refl, λ h. sym (h refl))
 
 pub opcode-command : (o : Opcode) (z : ℤ) → opcode (command o z) ≡ o
 opcode-command o z = made o z .0

@@ -1,10 +1,10 @@
 -- Writing a program as bytes and reading it gives it back; a program that was read can be written: each operand fits its width; and writing
 -- it gives the bytes that it was read from. What is written are bytes.
 -- Assumes nothing.
-use mathlib.Core.Path.{_≡_, refl, sym, ap, _∙_}
+use mathlib.Core.Path.{_≡_, refl, sym, ap, ap₂, _∙_}
 use mathlib.Core.List.{List, [], _∷_, _++_}
 use mathlib.Core.Option.{Option, none, some}
-use Prim.Native.Nat.{ℕ, zero, suc, _+_, _*_, _^_, _<_, _≤_}
+use Prim.Native.Nat.{ℕ, zero, suc, _+_, _*_, _%_, _^_, _<_, _≤_}
 use native.Mathlib.Nat.{mod-eq-of-lt}
 use native.Mathlib.Omega.{arith}
 use mathlib.Core.Bool.{Bool, true, false}
@@ -27,12 +27,16 @@ use Rattle.word.proofs.Laws.Field as Field
 use Rattle.program.specs.declared.Command.{Command}
 use Rattle.program.specs.declared.Operand.{Operand}
 use Rattle.program.specs.declared.Operand.the-variants as Operand
-use Rattle.program.specs.Command.{Opcode, opcodeOf, codeOf, operandOf, width, operandWidth, isPage, opcode, operand, command}
+use Rattle.program.specs.Command.{Opcode, opcodeOf, codeOf, operandOf, width, operandWidth, isPage}
+use Rattle.program.specs.Command.{isCounts, counts, argumentsOf, resultsOf, opcode, operand, command}
 use Rattle.program.specs.Decode.{First, unknown, cut, whole, operandAt, firstOperand, firstOpcode, Decoded, refused, accepted}
 use Rattle.program.specs.Decode.{prepend, permitted, permits, decodeIf, decodeFirst, decodeFrom, decode, commandLimit}
-use Rattle.program.specs.Encode.{FitsBytes, Fits, Writable, AllWritable, encodeCommand, encode}
+use Rattle.program.specs.Encode.{FitsBytes, Fits, Writable, AllWritable, operandBytes, encodeCommand, encode}
+use Rattle.program.specs.Fetch.{fieldOf}
+use Rattle.program.proofs.Counting.{counts-range, counts-arguments, counts-results, word-range, word-counts}
 use Rattle.program.proofs.Codes.{opcodeOf-codeOf, codeOf-opcodeOf, code-most, command-whole, opcode-command, operand-command}
-use Rattle.program.proofs.Decode.{commandsOf, decode-length, operandAt-none, signedAt-empty, operandAt-whole}
+use Rattle.program.proofs.Decode.{commandsOf, decode-length, byte-whole, operandAt-none, signedAt-empty, operandAt-whole}
+use Rattle.program.proofs.Fetching.{bytes-field}
 use Rattle.word.proofs.Bool.{never}
 
 -- ════════════════════════════════════════════════════════════════════════════════════════════
@@ -48,14 +52,26 @@ page-bytes : (z : ℤ) → isPage z ≡ true → (rest : List ℕ) → unsignedA
 page-bytes (pos n) w rest = Field.unsignedAt-bytes 1 [] rest n (omega (arith, ltb-true n 16 w))
 page-bytes (negsuc n) w rest = never (cc)
 
-fits-bytes : (x : Operand) (z : ℤ) → Fits x z → (rest : List ℕ) → operandAt x (bytesOf (width x) z ++ rest) 0 ≡ Number z
+counts-bytes : (z : ℤ) → isCounts z ≡ true → (rest : List ℕ) → operandAt Operand.Counts (operandBytes Operand.Counts z ++ rest) 0 ≡ Number z
+counts-bytes z w rest =
+    let (h, k) = word-range z w in
+    let s = operandBytes Operand.Counts z ++ rest in
+    let e : argumentsOf z % 256 ≡ argumentsOf z = omega arith in
+    rw (byte-whole s 0 (omega arith), byte-whole s (0 + 1) (omega arith), e) (ap Number (word-counts z w))
+
+fits-bytes : (x : Operand) (z : ℤ) → Fits x z → (rest : List ℕ) → operandAt x (operandBytes x z ++ rest) 0 ≡ Number z
 fits-bytes (Operand.Signed k) z w rest = signed-bytes k z w rest
 fits-bytes Operand.Page z w rest = page-bytes z w rest
+fits-bytes Operand.Counts z w rest = counts-bytes z w rest
 
 -- and it is permitted
 pub fits-permitted : (x : Operand) (z : ℤ) → Fits x z → permitted x z ≡ true
 fits-permitted (Operand.Signed k) z w = refl
 fits-permitted Operand.Page z w = w
+fits-permitted Operand.Counts z w = w
+
+pub operand-length : (x : Operand) (z : ℤ) → length (operandBytes x z) ≡ width x
+operand-length x z = ap length (bytes-field x z) ∙ Field.bytes-length (width x) (fieldOf x z)
 
 decode-from : (cs : List Command) (left at : ℕ) → length cs ≤ left → AllWritable cs → decodeFrom left at (encode cs) ≡ accepted cs
 unfolding decodeFrom encode
@@ -68,7 +84,7 @@ decode-from (c ∷ cs) (suc left) at h w =
     rw (
       opcodeOf-codeOf o,
       fits-bytes (operandOf o) z (w .0) (encode cs),
-      drop-at (bytesOf (operandWidth o) z) (encode cs) (operandWidth o) (Field.bytes-length (operandWidth o) z),
+      drop-at (operandBytes (operandOf o) z) (encode cs) (operandWidth o) (operand-length (operandOf o) z),
       decode-from cs left (at + suc (operandWidth o)) (omega arith) (w .1),
       command-whole c,
       fits-permitted (operandOf o) z (w .0),
@@ -111,6 +127,7 @@ operand-fits (Operand.Signed zero) s z b e t = operandAt-none (Operand.Signed 0)
 operand-fits (Operand.Signed (suc k)) s z b e t =
     field-signed (suc k) s z b (operandAt-whole (Operand.Signed (suc k)) s 0 z e) (omega arith) e
 operand-fits Operand.Page s z b e t = t
+operand-fits Operand.Counts s z b e t = t
 
 operand-writable : (o : Opcode) (s : List ℕ) (z : ℤ) → Bytes s → operandAt (operandOf o) s 0 ≡ Number z → permitted (operandOf o) z ≡ true
     → Writable (command o z)
@@ -182,19 +199,34 @@ residue-natural : (k n : ℕ) → n < 2 ^ k → residue k (pos n) ≡ n
 unfolding residue
 residue-natural k n h = mod-eq-of-lt h
 
-operand-bytes : (x : Operand) (s : List ℕ) (z : ℤ) → Bytes s → operandAt x s 0 ≡ Number z → bytesOf (width x) z ≡ take (width x) s
+-- two counts that are permitted are the two bytes
+counts-taken : (s : List ℕ) (z : ℤ) → operandAt Operand.Counts s 0 ≡ Number z → isCounts z ≡ true
+    → operandBytes Operand.Counts z ≡ take 2 s
+counts-taken [] z e t = absurd (omega (arith, operandAt-whole Operand.Counts [] 0 z e))
+counts-taken (a ∷ []) z e t = absurd (omega (arith, operandAt-whole Operand.Counts (a ∷ []) 0 z e))
+counts-taken (a ∷ d ∷ s) z e t =
+    let l = a ∷ d ∷ s in
+    let k : counts (pos a) (pos d) ≡ z = cc (rw (byte-whole l 0 (omega arith), byte-whole l (0 + 1) (omega arith)) at e) in
+    let (g, h) = counts-range a d (ap isCounts k ∙ t) in
+    let x = ap argumentsOf (sym k) ∙ counts-arguments a d g h in
+    let y = ap resultsOf (sym k) ∙ counts-results a d g h in
+    ap₂ (λ (x y : ℕ). x ∷ y ∷ []) (omega arith) y
+
+operand-bytes : (x : Operand) (s : List ℕ) (z : ℤ) → Bytes s → operandAt x s 0 ≡ Number z → permitted x z ≡ true
+    → operandBytes x z ≡ take (width x) s
 unfolding bytesOf digitsOf
-operand-bytes (Operand.Signed zero) s z b e = refl
-operand-bytes (Operand.Signed (suc k)) s z b e =
+operand-bytes (Operand.Signed zero) s z b e t = refl
+operand-bytes (Operand.Signed (suc k)) s z b e t =
     let h = operandAt-whole (Operand.Signed (suc k)) s 0 z e in
     let n = bitsAt (suc k) s 0 in
     let d : z ≡ signed (8 * suc k) n = cc (Field.signedAt-whole (suc k) s 0 h) in
     bits-bytes (suc k) s b h z (rw d (residue-signed (8 * suc k) n (omega arith) (Field.bitsAt-lt (suc k) s 0 h b)))
-operand-bytes Operand.Page s z b e =
+operand-bytes Operand.Page s z b e t =
     let h = operandAt-whole Operand.Page s 0 z e in
     let n = bitsAt 1 s 0 in
     let d : z ≡ pos n = cc (Field.unsignedAt-whole 1 s 0 h) in
     bits-bytes 1 s b h z (rw d (residue-natural 8 n (Field.bitsAt-lt 1 s 0 h b)))
+operand-bytes Operand.Counts s z b e t = counts-taken s z e t
 
 -- writing the commands that were read gives these bytes
 abbrev Encodes : List ℕ → Decoded → Type 0
@@ -210,22 +242,25 @@ operand-encodes : (o : Opcode) (b : ℕ) (s : List ℕ) (at : ℕ) (rest : ℕ �
     → ((w : ℕ) → Encodes (drop w s) (rest w)) → (f : Field) → operandAt (operandOf o) s 0 ≡ f
     → Encodes (b ∷ s) (decodeFirst (firstOperand o f) at rest)
 operand-encodes o b s at rest d h g Cut e = tt
-operand-encodes o b s at rest d h g (Number z) e = by (permits (command o z))
+operand-encodes o b s at rest d h g (Number z) e = by (permits (command o z)) refl
   where
-    by : (t : Bool) → Encodes (b ∷ s) (decodeIf t (command o z) at (rest (operandWidth o)))
-    by true =
+    made : operand (command o z) ≡ z
+    made = operand-command o z (λ k. operandAt-none (operandOf o) s 0 z e k)
+
+    by : (t : Bool) → permits (command o z) ≡ t → Encodes (b ∷ s) (decodeIf t (command o z) at (rest (operandWidth o)))
+    by true t =
         let w = operandWidth o in
         let x = operandOf o in
         prepend-encodes (command o z) (rest w) (b ∷ s) (drop w s)
         (rw (
           opcode-command o z,
-          operand-command o z (λ k. operandAt-none x s 0 z e k),
+          made,
           d,
-          operand-bytes x s z h e,
+          operand-bytes x s z h e (rw (opcode-command o z, made) at t),
           take-append-drop w s,
         ))
         (g w)
-    by false = tt
+    by false t = tt
 
 opcode-encodes : (x : Option Opcode) (b : ℕ) (s : List ℕ) (at : ℕ) (rest : ℕ → Decoded) → opcodeOf b ≡ x → Bytes s
     → ((w : ℕ) → Encodes (drop w s) (rest w)) → Encodes (b ∷ s) (decodeFirst (firstOpcode x s) at rest)
@@ -270,7 +305,9 @@ append-bytes (b ∷ s) t f g (suc i) = append-bytes s t (bytes-tail b s f) g i
 command-bytes : (c : Command) → Bytes (encodeCommand c)
 command-bytes c zero = omega (arith, code-most (opcode c))
 command-bytes c (suc i) =
-    below-bytes (bytesOf (operandWidth (opcode c)) (operand c)) (Field.bytes-lt (operandWidth (opcode c)) (operand c)) i
+    let x = operandOf (opcode c) in
+    let y = fieldOf x (operand c) in
+    rw (bytes-field x (operand c)) (below-bytes (bytesOf (width x) y) (Field.bytes-lt (width x) y) i)
 
 pub encode-bytes : (cs : List Command) → Bytes (encode cs)
 unfolding encode

@@ -1,10 +1,10 @@
 -- Decoding one command at a time, as code reads it: what fetching at a position says of the program from there on.
 -- Assumes nothing.
-use mathlib.Core.Path.{_≡_, refl, sym, ap, subst, _∙_}
+use mathlib.Core.Path.{_≡_, refl, sym, ap, ap₂, subst, _∙_}
 use mathlib.Core.Bool.{Bool, true, false}
 use mathlib.Core.List.{List, [], _∷_}
 use mathlib.Core.Option.{Option, none, some}
-use Prim.Native.Nat.{ℕ, suc, _+_, _<_, _≤_}
+use Prim.Native.Nat.{ℕ, suc, _+_, _*_, _%_, _<_, _≤_}
 use native.Mathlib.Nat.{add-zero}
 use native.Mathlib.Numerals.{add-one}
 use native.Mathlib.Omega.{arith}
@@ -16,22 +16,26 @@ use borrow.Author.Tests.{lt-ltb, le-ltb, ltb-true, ltb-false}
 use Rattle.word.specs.declared.field.Field.{Field}
 use Rattle.word.specs.declared.field.Field.the-variants as Field
 use Rattle.word.specs.Exact.{isSigned}
-use Rattle.word.specs.Field.{unsignedAt, signedAt, bitsAt, bytesOf}
+use Rattle.word.specs.Digits.{digitsOf}
+use Rattle.word.specs.Wrap.{residue, signed}
+use Rattle.word.specs.Field.{bitsAt, unsignedAt, signedAt, bytesOf}
 use Rattle.word.proofs.Bool.{never}
-use Rattle.word.proofs.Laws.Field.{bitsAt-none, bitsAt-cons, unsignedAt-whole, unsignedAt-cut}
+use Rattle.word.proofs.Laws.Field.{bitsAt-none, bitsAt-cons, signedAt-whole, signedAt-cut, unsignedAt-whole}
 use Rattle.program.specs.declared.Fetched.{Fetched}
 use Rattle.program.specs.declared.Fetched.the-variants.{Is, Unknown, Cut}
 use Rattle.program.specs.declared.Operand.{Operand}
 use Rattle.program.specs.declared.Operand.the-variants as Operand
 use Rattle.program.specs.declared.Shape.the-variants as Shape
-use Rattle.program.specs.Command.{Opcode, opcodeOf, codeOf, operandOf, width, operandWidth, holds, isPage, command, operand}
-use Rattle.program.specs.Decode.{First, unknown, cut, whole, operandAt, firstOpcode, refused, refusal, permitted, permits}
+use Rattle.program.specs.Command.{Opcode, opcodeOf, codeOf, operandOf, width, operandWidth, holds}
+use Rattle.program.specs.Command.{isPage, counts, argumentsOf, resultsOf, command, opcode, operand}
+use Rattle.program.specs.Decode.{First, unknown, cut, whole, countsField, operandAt, firstOpcode, refused, refusal, permits, checkOf}
 use Rattle.program.specs.Decode.{decodeIf, decodeFirst, decodeFrom}
-use Rattle.program.specs.Encode.{encodeCode}
+use Rattle.program.specs.Encode.{operandBytes, encodeCode}
 use Rattle.program.specs.Space.{takeFirst, readable}
-use Rattle.program.specs.Fetch.{shapeOf, takesOf, permitsOf, fetchField, fetchOpcode, fetchOf}
+use Rattle.program.specs.Fetch.{shapeOf, takesOf, permitsOf, refusesOf, fieldOf, fetchField, fetchOpcode, fetchOf}
+use Rattle.program.proofs.Counting.{results-small}
 use Rattle.program.proofs.Codes.{opcodeOf-codeOf, codeOf-opcodeOf, code-most, opcode-command, operand-command, width-none}
-use Rattle.program.proofs.Decode.{operandAt-drop, operandAt-none, signedAt-empty, operandAt-whole}
+use Rattle.program.proofs.Decode.{byte-whole, byte-cut, operandAt-drop, operandAt-none, signedAt-empty, operandAt-whole}
 
 -- the operand of a command is its field, which is 0 where it has no bytes
 operand-field : (o : Opcode) (s : List ℕ) (p : ℕ) (z : ℤ) → operandAt (operandOf o) s p ≡ Field.Number z → operand (command o z) ≡ z
@@ -86,12 +90,18 @@ module _ (s : List ℕ) (at : ℕ) (h : at < length s) where
   pub fetched-next : (z : ℤ) (next : ℕ) → fetchOf s at ≡ Is z next → Next s at z next
   fetched-next z next e = fetches (Is z next) e
 
-  -- may it have its operand? As its code says
+  -- may it have its operand? As its code's shape says
   pub fetched-permits : {z : ℤ} {next : ℕ} (n : Next s at z next)
-      → permitsOf (opcodeOf (getD s at 0)) z ≡ permits (command (n .opcode) z)
+      → permitsOf (shapeOf (opcodeOf (getD s at 0))) z ≡ permits (command (n .opcode) z)
   fetched-permits {z} n =
-      ap (λ c. permitsOf (opcodeOf c) z) (sym (n .code))
+      ap (λ c. permitsOf (shapeOf (opcodeOf c)) z) (sym (n .code))
       ∙ rw (opcodeOf-codeOf (n .opcode), opcode-command (n .opcode) z, n .operand-is)
+
+  -- and by which check it is refused
+  pub fetched-refuses : {z : ℤ} {next : ℕ} (n : Next s at z next)
+      → refusesOf (shapeOf (opcodeOf (getD s at 0))) ≡ checkOf (operandOf (opcode (command (n .opcode) z)))
+  fetched-refuses {z} n =
+      ap (λ c. refusesOf (shapeOf (opcodeOf c))) (sym (n .code)) ∙ rw (opcodeOf-codeOf (n .opcode), opcode-command (n .opcode) z)
 
   -- from there on: what a program is read as, of which one command more than `left` may follow
   module _ (left : ℕ) where
@@ -159,6 +169,7 @@ shaped-none code w x f g = width-none (x .0) w (x .2) f g
 pub width-nothing : (code : ℕ) (x : Operand) → Shaped code x → (width x ≡ 8 → ⊥) → (width x ≡ 2 → ⊥) → (width x ≡ 1 → ⊥) → width x ≡ 0
 width-nothing code (Operand.Signed w) x f g h = shaped-none code w x f g
 width-nothing code Operand.Page x f g h = absurd (h refl)
+width-nothing code Operand.Counts x f g h = absurd (g refl)
 
 pub unshaped : (code : ℕ) → shapeOf (opcodeOf code) ≡ Shape.Unknown → opcodeOf code ≡ none
 unshaped code e = of (opcodeOf code) refl e
@@ -197,26 +208,80 @@ module _ (s : List ℕ) (at : ℕ) where
 -- a page is the byte that stands there
 module _ (s : List ℕ) (at : ℕ) where
   pub page-whole : at < length s → Is (pos (getD s at 0)) (at + 1) ≡ fetchField (unsignedAt 1 s at) (at + 1)
-  page-whole h =
-      let e : bitsAt 1 s at ≡ getD s at 0 = omega (arith, bitsAt-cons 0 s at h, bitsAt-none s (suc at)) in
-      rw (unsignedAt-whole 1 s at (omega arith), e)
+  page-whole h = rw (byte-whole s at h)
 
   pub page-cut : length s ≤ at → Cut ≡ fetchField (unsignedAt 1 s at) (at + 1)
-  page-cut h = rw (unsignedAt-cut 1 s at (omega arith))
+  page-cut h = rw (byte-cut s at h)
+
+  -- and two counts are the two bytes that stand there
+  pub counts-whole : at + 2 ≤ length s
+      → Is (counts (pos (getD s at 0)) (pos (getD s (at + 1) 0))) (at + 2) ≡ fetchField (operandAt Operand.Counts s at) (at + 2)
+  counts-whole h = rw (byte-whole s at (omega arith), byte-whole s (at + 1) (omega arith))
+
+  pub counts-cut : length s < at + 2 → Cut ≡ fetchField (operandAt Operand.Counts s at) (at + 2)
+  counts-cut h = by (unsignedAt 1 s at)
+    where
+      by : (f : Field) → Cut ≡ fetchField (countsField f (unsignedAt 1 s (at + 1))) (at + 2)
+      by Field.Cut = refl
+      by (Field.Number a) = rw (byte-cut s (at + 1) (omega arith))
+
+-- a number of eight bytes is that of its halves
+module _ (s : List ℕ) (at : ℕ) where
+  pub half-whole : (z : ℤ) → at + 4 ≤ length s → unsignedAt 4 s at ≡ Field.Number z → z ≡ pos (bitsAt 4 s at)
+  half-whole z h e = number (sym e ∙ unsignedAt-whole 4 s at h)
+    where
+      number : {y : ℤ} → Field.Number z ≡ Field.Number y → z ≡ y
+      number e = cc
+
+  pub half-cut : {A : Type 0} → at + 4 ≤ length s → unsignedAt 4 s at ≡ Field.Cut → A
+  half-cut h e = cut-number (sym e ∙ unsignedAt-whole 4 s at h)
+    where
+      cut-number : {A : Type 0} {y : ℤ} → Field.Cut ≡ Field.Number y → A
+      cut-number e = never (cc)
+
+  halves : at + 8 ≤ length s → bitsAt 4 s at + 4294967296 * bitsAt 4 s (at + 4) ≡ bitsAt 8 s at
+  halves h =
+      let e : at + 4 ≡ suc (suc (suc (suc at))) = omega arith in
+      rw e (omega (
+        arith,
+        bitsAt-cons 3 s at (omega arith),
+        bitsAt-cons 2 s (suc at) (omega arith),
+        bitsAt-cons 1 s (suc (suc at)) (omega arith),
+        bitsAt-cons 0 s (suc (suc (suc at))) (omega arith),
+        bitsAt-none s (suc (suc (suc (suc at)))),
+        bitsAt-cons 7 s at (omega arith),
+        bitsAt-cons 6 s (suc at) (omega arith),
+        bitsAt-cons 5 s (suc (suc at)) (omega arith),
+        bitsAt-cons 4 s (suc (suc (suc at))) (omega arith),
+      ))
+
+  pub long-whole : at + 8 ≤ length s
+      → Field.Number (signed 64 (bitsAt 4 s at + 4294967296 * bitsAt 4 s (at + 4))) ≡ signedAt 8 s at
+  long-whole h = ap (λ n. Field.Number (signed 64 n)) (halves h) ∙ sym (signedAt-whole 8 s at h)
+
+  pub long-cut : length s < at + 8 → Field.Cut ≡ signedAt 8 s at
+  long-cut h = sym (signedAt-cut 8 s at h)
 
 -- ════════════════════════════════════════════════════════════════════════════════════════════
 -- The range of an operand, and the bytes of a command
 -- ════════════════════════════════════════════════════════════════════════════════════════════
 
+-- the bytes of an operand are those of a number
+pub bytes-field : (x : Operand) (z : ℤ) → operandBytes x z ≡ bytesOf (width x) (fieldOf x z)
+unfolding bytesOf digitsOf residue
+bytes-field (Operand.Signed k) z = refl
+bytes-field Operand.Page z = refl
+bytes-field Operand.Counts z = by (argumentsOf z) (resultsOf z) (results-small z)
+  where
+    by : (a d : ℕ) → d < 16 → a % 256 ∷ d ∷ [] ≡ bytesOf 2 (pos (a % 256 + 256 * d))
+    by a d h = ap₂ (λ (x y : ℕ). x ∷ y ∷ []) (omega arith) (omega arith)
+
 module _ (code : ℕ) (x : Operand) (s : Shaped code x) (z : ℤ) where
   pub takes-shaped : takesOf (opcodeOf code) z ≡ holds x z
   takes-shaped = rw (s .1, s .2)
 
-  pub permits-shaped : permitsOf (opcodeOf code) z ≡ permitted x z
-  permits-shaped = rw (s .1, s .2)
-
-  pub encode-shaped : encodeCode (opcodeOf code) z ≡ code ∷ bytesOf (width x) z
-  encode-shaped = rw (s .1, s .2, codeOf-opcodeOf code (s .0) (s .1))
+  pub encode-shaped : encodeCode (opcodeOf code) z ≡ code ∷ bytesOf (width x) (fieldOf x z)
+  encode-shaped = rw (s .1, s .2, codeOf-opcodeOf code (s .0) (s .1)) (ap (λ l. code ∷ l) (bytes-field x z))
 
   pub code-byte : code < 256
   code-byte = omega (arith, codeOf-opcodeOf code (s .0) (s .1), code-most (s .0))

@@ -1,3 +1,4 @@
+pub mod Counting
 pub mod Codes
 pub mod Naming
 pub mod Spelling

@@ -137,7 +137,7 @@ prepend-accepted c (accepted rest) cs e = (rest, refl, cc)
 pub decoded-accepted : (b : Bool) (c : Command) (at : ℕ) (d : Decoded) (cs : List Command) → decodeIf b c at d ≡ accepted cs
     → (rest : List Command) × (d ≡ accepted rest) × (cs ≡ c ∷ rest)
 decoded-accepted true c at d cs e = prepend-accepted c d cs e
-decoded-accepted false c at d cs e = never (refused (refusal 12 at)) refl e
+decoded-accepted false c at d cs e = never (decodeIf false c at d) refl e
 
 module _ (at : ℕ) (rest : ℕ → Decoded) (cs : List Command) where
   first-some : (x : First) → decodeFirst x at rest ≡ accepted cs → 1 ≤ length cs

@@ -17,8 +17,9 @@ use Rattle.word.proofs.Laws.Exact.{signed-test, test-signed}
 use Rattle.word.proofs.Laws.Numeral.{numeral-length, digitCount-within}
 use Rattle.program.specs.declared.Operand.{Operand}
 use Rattle.program.specs.declared.Operand.the-variants as Operand
-use Rattle.program.specs.Command.{Opcode, operandOf, width, operandWidth, isPage, holds, inRange}
+use Rattle.program.specs.Command.{Opcode, operandOf, width, operandWidth, isPage, isCounts, holds, inRange}
 use Rattle.program.specs.Encode.{FitsBytes, Fits}
+use Rattle.program.proofs.Counting.{word-range}
 use Rattle.program.proofs.Codes.{opcode-all}
 
 pub width-most : (o : Opcode) → operandWidth o ≤ 8
@@ -40,6 +41,11 @@ module _ (o : Opcode) (z : ℤ) where
           page : (z : ℤ) → isPage z ≡ true → Signed 64 z
           page (pos n) w = omega (arith, ltb-true n 16 w)
           page (negsuc n) w = never (cc)
+      by Operand.Counts h w = word z w
+        where
+          word : (z : ℤ) → isCounts z ≡ true → Signed 64 z
+          word (pos n) w = omega (arith, word-range (pos n) w)
+          word (negsuc n) w = never (cc)
 
   -- where there is no operand, 0 fits and nothing else
   pub fits-none : operandWidth o ≡ 0 → Fits (operandOf o) z → z ≡ pos 0
@@ -48,6 +54,7 @@ module _ (o : Opcode) (z : ℤ) where
       by : (x : Operand) → width x ≡ 0 → Fits x z → z ≡ pos 0
       by (Operand.Signed k) e w = rw e at w
       by Operand.Page e w = absurd (omega arith)
+      by Operand.Counts e w = absurd (omega arith)
 
   pub none-fits : operandWidth o ≡ 0 → z ≡ pos 0 → Fits (operandOf o) z
   none-fits e d = by (operandOf o) e
@@ -55,6 +62,7 @@ module _ (o : Opcode) (z : ℤ) where
       by : (x : Operand) → width x ≡ 0 → Fits x z
       by (Operand.Signed k) e = rw e d
       by Operand.Page e = absurd (omega arith)
+      by Operand.Counts e = absurd (omega arith)
 
   -- what is in range fits; and what fits an operand is in its range
   pub range-fits : inRange o z ≡ true → Fits (operandOf o) z
@@ -64,6 +72,7 @@ module _ (o : Opcode) (z : ℤ) where
       by (Operand.Signed zero) e = never (cc)
       by (Operand.Signed (suc k)) e = test-signed (8 * suc k) z e
       by Operand.Page e = e
+      by Operand.Counts e = e
 
   pub fits-range : (k : ℕ) → operandWidth o ≡ suc k → Fits (operandOf o) z → inRange o z ≡ true
   fits-range k e w = by (operandOf o) e w
@@ -72,6 +81,7 @@ module _ (o : Opcode) (z : ℤ) where
       by (Operand.Signed zero) e w = absurd (omega arith)
       by (Operand.Signed (suc j)) e w = signed-test (8 * suc j) z w
       by Operand.Page e w = w
+      by Operand.Counts e w = w
 
   pub range-word : inRange o z ≡ true → isSigned 64 z ≡ true
   range-word e = signed-test 64 z (fits-word (range-fits e))

@@ -48,7 +48,7 @@ letters-named name o e = same-equal (letters o) name (rw (first-passes (λ o. sa
 
 unfoldable pub guesses : List ℕ
 guesses =
-    0 ∷ 0 ∷ 0 ∷ 0 ∷ 0 ∷ 0 ∷ 1 ∷ 0 ∷ 0 ∷ 11 ∷ 0 ∷ 0 ∷ 0 ∷ 0 ∷ 10 ∷ 3 ∷ 7 ∷ 0 ∷ 9 ∷ 0 ∷ 0 ∷ 4 ∷ 0 ∷ 8 ∷ 0 ∷ 0 ∷ 0 ∷ 2 ∷ 12 ∷ 5 ∷ 0 ∷ 6 ∷ []
+    0 ∷ 0 ∷ 0 ∷ 0 ∷ 13 ∷ 0 ∷ 1 ∷ 0 ∷ 0 ∷ 11 ∷ 0 ∷ 0 ∷ 0 ∷ 0 ∷ 10 ∷ 3 ∷ 7 ∷ 0 ∷ 9 ∷ 0 ∷ 0 ∷ 4 ∷ 0 ∷ 8 ∷ 0 ∷ 0 ∷ 0 ∷ 2 ∷ 12 ∷ 5 ∷ 14 ∷ 6 ∷ []
 
 abbrev pub guess : ℕ → ℕ
 guess word = getD guesses ((word / 256 + word / 32768) % 32) 0

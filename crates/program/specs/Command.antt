@@ -1,31 +1,33 @@
--- The commands of document 01, and OutputTo of request U4: the table of them, and how a command is put together from its opcode and its
--- operand.
-use Prim.Native.Nat.{ℕ, zero, suc, _*_}
+-- The commands of document 01, OutputTo of request U4, CallN and RetV of request U6: the table of them, and how a command is put together
+-- from its opcode and its operand.
+use Prim.Native.Nat.{ℕ, zero, suc, _+_, _*_, _/_, _%_}
 use Prim.Native.String.{String}
-use mathlib.Core.Bool.{Bool, true, false}
+use mathlib.Core.Bool.{Bool, true, false, _&&_}
 use mathlib.Core.List.{List, [], _∷_}
 use mathlib.Core.Option.{Option, none}
 use lib.IntN.{ℤ, pos, negsuc}
 use lib.ListN.{getElem?}
 use lib.Dec.{ltb}
+use Rattle.word.specs.Choose.{choose}
 use Rattle.word.specs.Exact.{isSigned}
 use Rattle.word.specs.Text.{ascii}
 use Rattle.program.specs.declared.Command.{Command}
 use Rattle.program.specs.declared.Command.the-variants.{Add, Sub, Pop, Output, Push, Load, Store, Jump, Bnz, Call, Ret, OutputTo}
+use Rattle.program.specs.declared.Command.the-variants.{CallN, RetV}
 use Rattle.program.specs.declared.Operand.{Operand}
-use Rattle.program.specs.declared.Operand.the-variants.{Signed, Page}
+use Rattle.program.specs.declared.Operand.the-variants.{Signed, Page, Counts}
 
 -- a command without its operand
 pub data Opcode : Type 0 where
-  add sub pop output push load store jump bnz call ret outputTo : Opcode
+  add sub pop output push load store jump bnz call ret outputTo callN retV : Opcode
 
--- in the order of their codes, from 01 to 0c
+-- in the order of their codes, from 01 to 0e
 abbrev pub opcodes : List Opcode
-opcodes = add ∷ sub ∷ pop ∷ output ∷ push ∷ load ∷ store ∷ jump ∷ bnz ∷ call ∷ ret ∷ outputTo ∷ []
+opcodes = add ∷ sub ∷ pop ∷ output ∷ push ∷ load ∷ store ∷ jump ∷ bnz ∷ call ∷ ret ∷ outputTo ∷ callN ∷ retV ∷ []
 
 -- those that have a rule of their own, in the order of a rule table
 abbrev pub ruled : List Opcode
-ruled = add ∷ sub ∷ pop ∷ output ∷ push ∷ load ∷ store ∷ jump ∷ bnz ∷ call ∷ ret ∷ []
+ruled = add ∷ sub ∷ pop ∷ output ∷ push ∷ load ∷ store ∷ jump ∷ bnz ∷ call ∷ ret ∷ retV ∷ []
 
 -- the opcode that has a code
 unfoldable pub opcodeOf : ℕ → Option Opcode
@@ -54,7 +56,8 @@ row code name operand inputs result rule =
 abbrev bare : Operand
 bare = Signed 0
 
--- Pop, Jump, Bnz and Ret have no result; Store's is the cell's, Call's the frame's. OutputTo is under Output's rule
+-- Pop, Jump, Bnz and Ret have no result; Store's is the cell's, Call's and CallN's the frame's. OutputTo is under Output's rule, and
+-- CallN under Call's
 abbrev pub description : Opcode → Description
 description add = row 0x01 "Add" bare 2 true 0
 description sub = row 0x02 "Sub" bare 2 true 1
@@ -68,6 +71,8 @@ description bnz = row 0x09 "Bnz" (Signed 2) 1 false 8
 description call = row 0x0a "Call" bare 1 true 9
 description ret = row 0x0b "Ret" bare 1 false 10
 description outputTo = row 0x0c "OutputTo" Page 1 true 3
+description callN = row 0x0d "CallN" Counts 1 true 9
+description retV = row 0x0e "RetV" bare 2 true 11
 
 abbrev pub codeOf : Opcode → ℕ
 codeOf o = description o .code
@@ -79,6 +84,7 @@ operandOf o = description o .operand
 abbrev pub width : Operand → ℕ
 width (Signed k) = k
 width Page = 1
+width Counts = 2
 
 abbrev pub operandWidth : Opcode → ℕ
 operandWidth o = width (operandOf o)
@@ -88,11 +94,34 @@ abbrev pub isPage : ℤ → Bool
 isPage (pos n) = ltb n 16
 isPage (negsuc n) = false
 
--- is a number in the range of an operand? All that its bytes hold is, but for a page; nothing is where there is no operand
+-- CallN's operand word: 16 × how many arguments stay + how many results are due; −1, which is no CallN's, where one of them is out of
+-- range, 0 to 15 and 0 or 1
+abbrev pub counts : ℤ → ℤ → ℤ
+counts (pos a) (pos d) = choose (ltb a 16) (choose (ltb d 2) (pos (16 * a + d)) (negsuc 0)) (negsuc 0)
+counts (pos a) (negsuc d) = negsuc 0
+counts (negsuc a) d = negsuc 0
+
+-- and back: how many arguments
+abbrev pub argumentsOf : ℤ → ℕ
+argumentsOf (pos n) = n / 16
+argumentsOf (negsuc n) = 0
+
+-- and how many results
+abbrev pub resultsOf : ℤ → ℕ
+resultsOf (pos n) = n % 16
+resultsOf (negsuc n) = 0
+
+-- the words of two counts in range
+abbrev pub isCounts : ℤ → Bool
+isCounts (pos n) = ltb n 256 && ltb (n % 16) 2
+isCounts (negsuc n) = false
+
+-- is a number in the range of an operand? All that its bytes hold is, but for a page and two counts; nothing is where there is no operand
 abbrev pub holds : Operand → ℤ → Bool
 holds (Signed zero) z = false
 holds (Signed (suc k)) z = isSigned (8 * suc k) z
 holds Page z = isPage z
+holds Counts z = isCounts z
 
 abbrev pub inRange : Opcode → ℤ → Bool
 inRange o z = holds (operandOf o) z
@@ -132,6 +161,8 @@ parts (Bnz z) = part bnz z
 parts Call = part call (pos 0)
 parts Ret = part ret (pos 0)
 parts (OutputTo z) = part outputTo z
+parts (CallN z) = part callN z
+parts RetV = part retV (pos 0)
 
 abbrev pub opcode : Command → Opcode
 opcode c = parts c .opcode
@@ -139,7 +170,7 @@ opcode c = parts c .opcode
 abbrev pub operand : Command → ℤ
 operand c = parts c .operand
 
--- the command with an opcode and an operand, which only Push, Bnz and OutputTo have
+-- the command with an opcode and an operand, which only Push, Bnz, OutputTo and CallN have
 abbrev pub command : Opcode → ℤ → Command
 command add z = Add
 command sub z = Sub
@@ -153,3 +184,5 @@ command bnz z = Bnz z
 command call z = Call
 command ret z = Ret
 command outputTo z = OutputTo z
+command callN z = CallN z
+command retV z = RetV

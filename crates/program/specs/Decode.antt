@@ -1,4 +1,4 @@
--- Reading a program (document 01: a sheet) from bytes: its commands, or the first refusal. Checks 1 to 3 and 12.
+-- Reading a program (document 01: a sheet) from bytes: its commands, or the first refusal. Checks 1 to 3, 12 and 14.
 use Prim.Native.Nat.{ℕ, zero, suc, _+_}
 use mathlib.Core.Bool.{Bool, true, false}
 use mathlib.Core.List.{List, [], _∷_}
@@ -10,11 +10,11 @@ use Rattle.word.specs.Field.{unsignedAt, signedAt}
 use lib.IntN.{ℤ}
 use Rattle.program.specs.declared.Command.{Command}
 use Rattle.program.specs.declared.Operand.{Operand}
-use Rattle.program.specs.declared.Operand.the-variants.{Signed, Page}
+use Rattle.program.specs.declared.Operand.the-variants.{Signed, Page, Counts}
 use Rattle.program.specs.declared.Refusal.{Refusal}
 use Rattle.program.specs.declared.Checked.{Checked}
 use Rattle.program.specs.declared.Checked.the-variants as Checked
-use Rattle.program.specs.Command.{Opcode, opcodeOf, operandOf, operandWidth, isPage, opcode, operand, command}
+use Rattle.program.specs.Command.{Opcode, opcodeOf, operandOf, operandWidth, isPage, isCounts, counts, opcode, operand, command}
 
 pub data Decoded : Type 0 where
   refused : Refusal → Decoded
@@ -28,10 +28,17 @@ abbrev pub prepend : Command → Decoded → Decoded
 prepend c (refused r) = refused r
 prepend c (accepted cs) = accepted (c ∷ cs)
 
--- the operand that stands at a position: a signed number, or a page, which is an unsigned byte
+-- the word of the two counts that two fields are
+abbrev pub countsField : Field → Field → Field
+countsField Cut f = Cut
+countsField (Number a) Cut = Cut
+countsField (Number a) (Number d) = Number (counts a d)
+
+-- the operand that stands at a position: a signed number; or a page, which is an unsigned byte; or two counts, an unsigned byte each
 abbrev pub operandAt : Operand → List ℕ → ℕ → Field
 operandAt (Signed k) bytes at = signedAt k bytes at
 operandAt Page bytes at = unsignedAt 1 bytes at
+operandAt Counts bytes at = countsField (unsignedAt 1 bytes at) (unsignedAt 1 bytes (at + 1))
 
 -- what a code begins with the bytes after it: an unknown command, one whose operand is cut, or a command and its operand's bytes
 pub data First : Type 0 where
@@ -46,17 +53,24 @@ abbrev pub firstOpcode : Option Opcode → List ℕ → First
 firstOpcode none bytes = unknown
 firstOpcode (some o) bytes = firstOperand o (operandAt (operandOf o) bytes 0)
 
--- may a command have its operand? A page is at most 15
+-- may a command have its operand? A page is at most 15; arguments are too, and results at most 1
 abbrev pub permitted : Operand → ℤ → Bool
 permitted (Signed k) z = true
 permitted Page z = isPage z
+permitted Counts z = isCounts z
 
 abbrev pub permits : Command → Bool
 permits c = permitted (operandOf (opcode c)) (operand c)
 
+-- the check that refuses an operand that is not permitted; a signed one always is
+abbrev pub checkOf : Operand → ℕ
+checkOf (Signed k) = 12
+checkOf Page = 12
+checkOf Counts = 14
+
 abbrev pub decodeIf : Bool → Command → ℕ → Decoded → Decoded
 decodeIf true c at rest = prepend c rest
-decodeIf false c at rest = refused (refusal 12 at)
+decodeIf false c at rest = refused (refusal (checkOf (operandOf (opcode c))) at)
 
 -- the command at an offset, then the rest of the program
 abbrev pub decodeFirst : First → ℕ → (ℕ → Decoded) → Decoded

@@ -22,3 +22,7 @@ pub const CALL: u64 = 0x0a;
 pub const RET: u64 = 0x0b;
 
 pub const OUTPUT_TO: u64 = 0x0c;
+
+pub const CALL_N: u64 = 0x0d;
+
+pub const RET_V: u64 = 0x0e;

@@ -3,17 +3,22 @@ pub mod code;
 pub mod names;
 
 ghost use mathlib.Core.Path.{_≡_};
-ghost use Prim.Native.Nat.{_+_, _<_};
-ghost use lib.ListN.{length};
-ghost use Rattle.program.specs.Decode.{decode, checkAnswer};
-ghost use Rattle.program.specs.Command.{opcodeOf, width, isPage};
+ghost use Prim.Native.Nat.{_+_, _<_, _≤_};
+ghost use lib.ListN.{length, getD};
+ghost use Rattle.program.specs.Decode.{decode, operandAt, checkAnswer};
+ghost use Rattle.program.specs.Command.{opcodeOf, width, isPage, argumentsOf, resultsOf, isCounts};
+ghost use Rattle.program.specs.Command.{counts as countsOf};
+ghost use Rattle.program.specs.declared.Operand.the-variants.{Counts};
 ghost use Rattle.word.specs.Text.{putAnswer, putOut};
 ghost use Rattle.program.specs.Encode.{encodeCode};
-ghost use Rattle.word.specs.Field.{unsignedAt};
-ghost use Rattle.program.specs.Fetch.{shapeOf, takesOf, permitsOf, fetchField, fetchOf};
+ghost use Rattle.word.specs.Field.{bitsAt, unsignedAt, signedAt};
+ghost use Rattle.word.specs.Wrap.{signed as signedOf};
+ghost use Rattle.program.specs.Fetch.{shapeOf, takesOf, permitsOf, refusesOf, fieldOf, fetchField, fetchOf};
 ghost use Rattle.program.specs.Name.{nameOf, codeNamed};
 ghost use Rattle.program.specs.Space.{writeSpace};
 use word::field::Field;
+use word::number::Index;
+use word::number::Natural;
 use word::text::Put;
 
 // A command of documents 01 and 02, with its operand where it has one: what the definitions speak of.
@@ -30,6 +35,8 @@ pub enum Command {
     Call,
     Ret,
     OutputTo(i64),
+    CallN(i64),
+    RetV,
 }
 
 // A refusal of document 01: its number and its place.
@@ -50,10 +57,12 @@ pub struct Name {
     pub length: usize,
 }
 
-// A command's operand: a signed number of so many bytes, of none where there is no operand; or a page, an unsigned byte from 0 to 15.
+// A command's operand: a signed number of so many bytes, of none where there is no operand; a page, an unsigned byte from 0 to 15; or
+// two counts, an unsigned byte each: how many arguments, 0 to 15, and how many results, 0 or 1.
 pub enum Operand {
     Signed(usize),
     Page,
+    Counts,
 }
 
 // What the table of commands says of a code: its operand, how many inputs are supplied, whether there is a result, and the number of its
@@ -87,6 +96,8 @@ pub fn shape_of(code: u64) -> Shape
         code::CALL => Shape::Of(Operand::Signed(0), 1, true, 9),
         code::RET => Shape::Of(Operand::Signed(0), 1, false, 10),
         code::OUTPUT_TO => Shape::Of(Operand::Page, 1, true, 3),
+        code::CALL_N => Shape::Of(Operand::Counts, 1, true, 9),
+        code::RET_V => Shape::Of(Operand::Signed(0), 2, true, 11),
         _ => Shape::Unknown,
     }
 }
@@ -144,6 +155,14 @@ pub fn name_of(code: u64) -> Name
             word: names::OUTPUT_TO,
             length: 8,
         },
+        code::CALL_N => Name {
+            word: names::CALL_N,
+            length: 5,
+        },
+        code::RET_V => Name {
+            word: names::RET_V,
+            length: 4,
+        },
         _ => Name { word: 0, length: 0 },
     }
 }
@@ -167,6 +186,56 @@ fn is_page(number: i64) -> bool
     number < 16
 }
 
+// How many arguments an operand word of two counts says; of a negative word none. So the results.
+pub fn arguments_of(word: i64) -> u64
+    ensures { λ r. ⌜ r ≡ argumentsOf word ⌝ }
+{
+    let number = word::number::unsigned(word);
+    match number {
+        Natural::Of(n) => n / 16,
+        Natural::Negative => 0,
+    }
+}
+
+// How many results it says.
+pub fn results_of(word: i64) -> u64
+    ensures { λ r. ⌜ r ≡ resultsOf word ⌝ }
+{
+    let number = word::number::unsigned(word);
+    match number {
+        Natural::Of(n) => n % 16,
+        Natural::Negative => 0,
+    }
+}
+
+// The operand word of two counts: 16 for each argument, and the results; -1 where one of the two is out of range.
+pub fn counts(arguments: i64, results: i64) -> i64
+    ensures { λ r. ⌜ r ≡ countsOf arguments results ⌝ }
+{
+    let first = word::number::below(arguments, 16);
+    match first {
+        Index::Outside => -1,
+        Index::At(a) => {
+            let second = word::number::below(results, 2);
+            match second {
+                Index::Outside => -1,
+                Index::At(d) => (16 * a + d) as i64,
+            }
+        }
+    }
+}
+
+// Is it the word of two counts in range?
+fn is_counts(word: i64) -> bool
+    ensures { λ r. ⌜ r ≡ isCounts word ⌝ }
+{
+    let number = word::number::below(word, 256);
+    match number {
+        Index::Outside => false,
+        Index::At(n) => n % 16 < 2,
+    }
+}
+
 // Is a number in the range of a code's operand? No number is where there is no operand.
 pub fn takes(code: u64, number: i64) -> bool
     ensures { λ r. ⌜ r ≡ takesOf (opcodeOf code) number ⌝ }
@@ -176,6 +245,7 @@ pub fn takes(code: u64, number: i64) -> bool
         Shape::Unknown => false,
         Shape::Of(operand, _, _, _) => match operand {
             Operand::Page => is_page(number),
+            Operand::Counts => is_counts(number),
             Operand::Signed(width) => {
                 if width == 8 {
                     return true;
@@ -192,16 +262,30 @@ pub fn takes(code: u64, number: i64) -> bool
     }
 }
 
-// May the command of a code have this operand? A page is 0 to 15.
-fn permits(code: u64, operand: i64) -> bool
-    ensures { λ r. ⌜ r ≡ permitsOf (opcodeOf code) operand ⌝ }
+// May a command of this shape have this operand? A page is 0 to 15; so are arguments, and results are 0 or 1.
+fn permits(shape: Shape, operand: i64) -> bool
+    ensures { λ r. ⌜ r ≡ permitsOf shape operand ⌝ }
 {
-    let shape = shape_of(code);
     match shape {
         Shape::Unknown => true,
         Shape::Of(kind, _, _, _) => match kind {
             Operand::Signed(_) => true,
             Operand::Page => is_page(operand),
+            Operand::Counts => is_counts(operand),
+        },
+    }
+}
+
+// The number of the check that refuses it, where it may not.
+fn check_of(shape: Shape) -> u64
+    ensures { λ r. ⌜ r ≡ refusesOf shape ⌝ }
+{
+    match shape {
+        Shape::Unknown => 12,
+        Shape::Of(kind, _, _, _) => match kind {
+            Operand::Signed(_) => 12,
+            Operand::Page => 12,
+            Operand::Counts => 14,
         },
     }
 }
@@ -227,31 +311,81 @@ fn page_at(bytes: &[u8], at: usize) -> Fetched
     }
 }
 
-// The command at a position, whatever its page; beyond the end it is unknown.
+// Two counts as an operand, likewise.
+fn counts_at(bytes: &[u8], at: usize) -> Fetched
+    requires { ⌜ at ≤ length (now bytes) ⌝ }
+    ensures { λ r. ⌜ r ≡ fetchField (operandAt Counts (now (bytes .entry)) at) (at + 2) ⌝ }
+{
+    if bytes.len() - at < 2 {
+        return Fetched::Cut;
+    }
+    let arguments = bytes[at] as i64;
+    let results = bytes[at + 1] as i64;
+    Fetched::Is(counts(arguments, results), at + 2)
+}
+
+// A signed number of eight bytes at an offset, by its halves, of which the compiler makes one word before it decides where `fetch` goes;
+// eight bytes one by one, as `word::field::i64_at` reads them, are too many to it.
+fn long_at(bytes: &[u8], at: usize) -> Field
+    requires { ⌜ at ≤ length (now bytes) ⌝ }
+    ensures { λ r. ⌜ r ≡ signedAt 8 (now (bytes .entry)) at ⌝ }
+{
+    if bytes.len() - at < 8 {
+        return Field::Cut;
+    }
+    let low = half_at(bytes, at);
+    let high = half_at(bytes, at + 4);
+    Field::Number(signed(low + 4294967296 * high))
+}
+
+// The number in four bytes.
+fn half_at(bytes: &[u8], at: usize) -> u64
+    requires { ⌜ at + 4 ≤ length (now bytes) ⌝ }
+    ensures { λ r. ⌜ r ≡ bitsAt 4 (now (bytes .entry)) at ⌝ }
+{
+    let field = word::field::u32_at(bytes, at);
+    match field {
+        Field::Number(z) => z as u64,
+        Field::Cut => 0,
+    }
+}
+
+// The number that the bits of a word stand for.
+fn signed(bits: u64) -> i64
+    ensures { λ r. ⌜ r ≡ signedOf 64 bits ⌝ }
+{
+    if bits < 9223372036854775808 {
+        bits as i64
+    } else {
+        -1 - (u64::MAX - bits) as i64
+    }
+}
+
+// The command at a position, whatever its operand; beyond the end it is unknown.
 pub fn command_at(bytes: &[u8], at: usize) -> Fetched
     ensures { λ r. ⌜ r ≡ fetchOf (now (bytes .entry)) at ⌝ }
 {
     if at < bytes.len() {
-        fetch(bytes, at)
+        fetch(bytes, at, shape_of(wide(bytes[at])))
     } else {
         Fetched::Unknown
     }
 }
 
-// The command at a position within the bytes.
-fn fetch(bytes: &[u8], at: usize) -> Fetched
-    requires { ⌜ at < length (now bytes) ⌝ }
+// The command at a position within the bytes, by its code's shape.
+fn fetch(bytes: &[u8], at: usize, shape: Shape) -> Fetched
+    requires { ⌜ (at < length (now bytes)) × (shape ≡ shapeOf (opcodeOf (getD (now bytes) at 0))) ⌝ }
     ensures { λ r. ⌜ r ≡ fetchOf (now (bytes .entry)) at ⌝ }
 {
     let next = at + 1;
-    let shape = shape_of(wide(bytes[at]));
     match shape {
         Shape::Unknown => Fetched::Unknown,
         Shape::Of(operand, _, _, _) => match operand {
             Operand::Page => page_at(bytes, next),
+            Operand::Counts => counts_at(bytes, next),
             Operand::Signed(width) => {
                 if width == 8 {
-                    return with_field(word::field::i64_at(bytes, next), next + 8);
+                    return with_field(long_at(bytes, next), next + 8);
                 }
                 if width == 2 {
                     return with_field(word::field::i16_at(bytes, next), next + 2);
@@ -269,6 +403,18 @@ pub fn width_of(operand: Operand) -> usize
     match operand {
         Operand::Signed(width) => width,
         Operand::Page => 1,
+        Operand::Counts => 2,
+    }
+}
+
+// The number whose lowest bytes are an operand's: of two counts the arguments in the lower byte, the results in the upper.
+fn field_of(kind: Operand, operand: i64) -> i64
+    ensures { λ r. ⌜ r ≡ fieldOf kind operand ⌝ }
+{
+    match kind {
+        Operand::Signed(_) => operand,
+        Operand::Page => operand,
+        Operand::Counts => { (arguments_of(operand) % 256 + 256 * results_of(operand)) as i64 }
     }
 }
 
@@ -288,6 +434,7 @@ pub fn put(code: u64, operand: i64, out: &mut [u8], at: usize) -> Put
         }
         Shape::Of(kind, _, _, _) => {
             let width = width_of(kind);
+            let field = field_of(kind, operand);
             if out.len() <= at {
                 return Put::NoRoom;
             }
@@ -296,13 +443,13 @@ pub fn put(code: u64, operand: i64, out: &mut [u8], at: usize) -> Put
             }
             out[at] = code as u8;
             if width == 8 {
-                return word::field::put_i64(operand, out, at + 1);
+                return word::field::put_i64(field, out, at + 1);
             }
             if width == 2 {
-                return word::field::put_i16(operand, out, at + 1);
+                return word::field::put_i16(field, out, at + 1);
             }
             if width == 1 {
-                return word::field::put_byte(operand, out, at + 1);
+                return word::field::put_byte(field, out, at + 1);
             }
             Put::Next(at + 1)
         }
@@ -315,7 +462,7 @@ fn wide(byte: u8) -> u64
     byte as u64
 }
 
-// Checks 1 to 3 and 12 over any bytes: each command from the left.
+// Checks 1 to 3, 12 and 14 over any bytes: each command from the left.
 pub fn check(bytes: &[u8]) -> Checked
     ensures { λ r. ⌜ r ≡ checkAnswer (decode (now (bytes .entry))) ⌝ }
 {
@@ -328,16 +475,16 @@ pub fn check(bytes: &[u8]) -> Checked
                 position: at,
             });
         }
-        let code = wide(bytes[at]);
-        let fetched = fetch(bytes, at);
+        let shape = shape_of(wide(bytes[at]));
+        let fetched = fetch(bytes, at, shape);
         match fetched {
             Fetched::Is(operand, next) => {
-                if permits(code, operand) {
+                if permits(shape, operand) {
                     at = next;
                     count += 1;
                 } else {
                     return Checked::Refused(Refusal {
-                        code: 12,
+                        code: check_of(shape),
                         position: at,
                     });
                 }
@@ -370,7 +517,7 @@ pub fn write(bytes: &[u8], space: &mut [i64])
             return;
         }
         let code = wide(bytes[at]);
-        let fetched = fetch(bytes, at);
+        let fetched = fetch(bytes, at, shape_of(code));
         match fetched {
             Fetched::Is(operand, next) => {
                 space[i] = code as i64;

@@ -35,13 +35,19 @@ pub const RET: u64 = 0x526574;
 // OutputTo
 pub const OUTPUT_TO: u64 = 0x4f7574707574546f;
 
+// CallN
+pub const CALL_N: u64 = 0x43616c6c4e;
+
+// RetV
+pub const RET_V: u64 = 0x52657456;
+
 // For each remainder modulo 32 of w / 2^8 + w / 2^15, the code of the one command whose name's word w has it, or 0.
 pub const GUESSES: [u64; 32] = [
     0,
     0,
     0,
     0,
-    0,
+    13,
     0,
     1,
     0,
@@ -67,6 +73,6 @@ pub const GUESSES: [u64; 32] = [
     2,
     12,
     5,
-    0,
+    14,
     6,
 ];

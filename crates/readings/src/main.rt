@@ -10,10 +10,12 @@ fn main() {
     readings::labelled();
     readings::others();
     readings::pages();
+    readings::calls();
     readings::rows();
     stops::places();
     stops::entries();
     stops::full();
     stops::sums();
     stops::closed();
+    stops::returns();
 }

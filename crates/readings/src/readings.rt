@@ -53,6 +53,18 @@ pub(crate) fn pages() {
     on_two(b"OutputTo 16: ", b"\x0b\x0c\x10", 5, 1000);
 }
 
+// A height corrected by a called function that returns it: cell 0 less cell 1. Sixteen arguments, and two results.
+pub(crate) fn calls() {
+    on_two(
+        b"CallN 1 1, RetV: ",
+        b"\x05\x06\0\0\0\0\0\0\0\x08\x05\0\0\0\0\0\0\0\0\x06\x02\x0e\x05\x01\0\0\0\0\0\0\0\x06\x05\x02\0\0\0\0\0\0\0\x0d\x01\x01\x04",
+        5,
+        1000,
+    );
+    on_two(b"CallN 16 0: ", b"\x0b\x0d\x10\0", 5, 1000);
+    on_two(b"CallN 0 2: ", b"\x0b\x0d\0\x02", 5, 1000);
+}
+
 // R11 and R12, and a Push whose row is there already.
 pub(crate) fn rows() {
     on_row(b"R11: ", b"", [1, 0, 1, 1, -1, 0, 1]);

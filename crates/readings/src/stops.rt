@@ -1,4 +1,4 @@
-// Every stop from 0 to 10.
+// Every stop from 0 to 11.
 use crate::trial::on_pages;
 use crate::trial::on_two;
 use engine::Clearances;
@@ -139,6 +139,34 @@ pub(crate) fn closed() {
         b"17 clearances: ",
         b"",
         Clearances { words, count: 17 },
+        5,
+        1000,
+    );
+}
+
+// Stop 11: a return that does not give what the frame owes; before it stops 3 and 4.
+pub(crate) fn returns() {
+    on_two(
+        b"stop 11, Ret to a frame that owes a result: ",
+        b"\x05\x02\0\0\0\0\0\0\0\x0d\0\x01\x0b",
+        5,
+        1000,
+    );
+    on_two(
+        b"stop 11, RetV to a frame that owes none: ",
+        b"\x05\x02\0\0\0\0\0\0\0\x0d\0\0\x05\x01\0\0\0\0\0\0\0\x0e",
+        5,
+        1000,
+    );
+    on_two(
+        b"stop 3, CallN 1 0 over a frame: ",
+        b"\x05\x02\0\0\0\0\0\0\0\x0d\0\0\x05\x02\0\0\0\0\0\0\0\x0d\x01\0",
+        5,
+        1000,
+    );
+    on_two(
+        b"stop 4, RetV with no frame under its value: ",
+        b"\x05\x01\0\0\0\0\0\0\0\x0e",
         5,
         1000,
     );

@@ -118,7 +118,7 @@ fn on(
     let table = policy::standard_table::bytes();
     let mut program = [-7i64; 514];
     let mut stack = [-7i64; 768];
-    let mut handler = [-7i64; 304];
+    let mut handler = [-7i64; 332];
     let mut numbers = [-7i64; 3];
     let mut line_labels = [-7i64; 3];
     let mut kinds = [-7i64; 3];

@@ -28,9 +28,9 @@ zeros n = replicate n (pos 0)
 abbrev pub lentFor : Cells → Memory
 lentFor c = memory (zeros (2 * 4096)) (lent (zeros (3 * 256)) c) (output (zeros 1024) (zeros 1024) (zeros 1024) (zeros 1024))
 
--- and space for the standard table's handler, which has 152 commands of two words
+-- and space for the standard table's handler, which has 166 commands of two words
 abbrev pub handlerSpace : List ℤ
-handlerSpace = zeros (2 * 152)
+handlerSpace = zeros (2 * 166)
 
 -- the tag engine, standard table and empty rule memory
 abbrev pub endFor : Cells → (allowance : ℕ) → List ℕ → Left

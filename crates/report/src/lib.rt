@@ -41,7 +41,7 @@ fn run(
     let table = policy::standard_table::bytes();
     let mut program = [0i64; 8192];
     let mut stack = [0i64; 768];
-    let mut handler = [0i64; 304];
+    let mut handler = [0i64; 332];
     let mut numbers = [0i64; 1024];
     let mut line_labels = [0i64; 1024];
     let mut kinds = [0i64; 1024];

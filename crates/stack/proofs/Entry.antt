@@ -3,17 +3,18 @@
 use mathlib.Core.Path.{_≡_, refl}
 use mathlib.Core.Bool.{Bool, true, false}
 use mathlib.Core.List.{List}
-use Prim.Native.Nat.{ℕ, zero, suc, _-_, _*_, _<_, _≤_}
+use Prim.Native.Nat.{ℕ, zero, suc, _+_, _-_, _*_, _<_, _≤_}
 use native.Mathlib.Omega.{arith}
 use lib.IntN.{ℤ, pos, negsuc}
 use lib.ListN.{length, getD}
 use lib.Seq.{set-getD}
-use lib.Dec.{ltb, leb, eqb·suc-zero}
+use lib.Dec.{ltb, leb, eqb, eqb·suc-zero}
 use borrow.Author.Tests.{lt-leb, le-ltb}
 use Rattle.word.specs.Choose.{choose}
 use Rattle.stack.specs.declared.Machine.{Machine}
 use Rattle.stack.specs.declared.Slot.{Slot}
 use Rattle.stack.specs.Words.{slotOf, nothingThere, kindOf, entryAt, slotAt, setEntry, pushedStack, refilledStack}
+use Rattle.stack.specs.Words.{raised, lifted}
 
 -- so many below the top, in a space for 256 entries
 pub slot-entry : (stack : List ℤ) (depth below i : ℕ) → below < depth → depth ≤ 256 → 768 ≤ length stack → depth - below - 1 ≡ i
@@ -22,13 +23,28 @@ unfolding slotAt
 slot-entry stack depth below i h fits space e =
     rw (lt-leb depth below h, le-ltb 256 depth fits, le-ltb (length stack) 768 space, e)
 
+-- one value after the other is lifted
+pub lifted-next : (stack : List ℤ) (i left : ℕ) → 0 < left → lifted (raised stack (i + (left - 1))) i (left - 1) ≡ lifted stack i left
+unfolding lifted
+lifted-next stack i zero h = absurd (omega arith)
+lifted-next stack i (suc n) h = let e : suc n - 1 ≡ n = omega arith in rw e
+
+pub lifted-none : (stack : List ℤ) (i left : ℕ) → left ≤ 0 → lifted stack i left ≡ stack
+unfolding lifted
+lifted-none stack i zero h = refl
+lifted-none stack i (suc n) h = absurd (omega arith)
+
 -- ════════════════════════════════════════════════════════════════════════════════════════════
 -- Refilling
 -- ════════════════════════════════════════════════════════════════════════════════════════════
 
 kind-zero : (z : ℤ) → kindOf z ≡ 0 → z ≡ pos 0
 kind-zero (pos zero) e = refl
-kind-zero (pos (suc n)) e = let f : _≡_ {A = ℕ} 1 0 = rw eqb·suc-zero at e in absurd (omega arith)
+kind-zero (pos (suc n)) e = by (eqb (suc n) 2) (rw eqb·suc-zero at e)
+  where
+    by : (b : Bool) → _≡_ {A = ℕ} (choose b 2 1) 0 → pos (suc n) ≡ pos 0
+    by true e = absurd (omega arith)
+    by false e = absurd (omega arith)
 kind-zero (negsuc n) e = absurd (omega arith)
 
 -- where a value is found, its kind word is 0

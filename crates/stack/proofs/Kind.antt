@@ -14,6 +14,10 @@ pub kind-value : (z : ℤ) → mag z < 2 ^ 63 → ofZ w64 z ≡ 0 → kindOf z �
 kind-value (pos n) h e = rw (eq-eqb n 0 e)
 kind-value (negsuc n) h e = absurd (omega arith)
 
-pub kind-frame : (z : ℤ) → (ofZ w64 z ≡ 0 → ⊥) → kindOf z ≡ 1
-kind-frame (pos n) f = rw (ne-eqb n 0 f)
-kind-frame (negsuc n) f = refl
+pub kind-owing : (z : ℤ) → mag z < 2 ^ 63 → ofZ w64 z ≡ 2 → kindOf z ≡ 2
+kind-owing (pos n) h e = rw (ne-eqb n 0 (λ d. omega arith), eq-eqb n 2 e)
+kind-owing (negsuc n) h e = absurd (omega arith)
+
+pub kind-frame : (z : ℤ) → (ofZ w64 z ≡ 0 → ⊥) → (ofZ w64 z ≡ 2 → ⊥) → kindOf z ≡ 1
+kind-frame (pos n) f g = rw (ne-eqb n 0 f, ne-eqb n 2 g)
+kind-frame (negsuc n) f g = refl

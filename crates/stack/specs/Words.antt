@@ -1,5 +1,5 @@
 -- The machine record and the lent stack, word by word: what the methods of this crate do, for all arguments.
-use Prim.Native.Nat.{ℕ, _+_, _-_, _*_}
+use Prim.Native.Nat.{ℕ, zero, suc, _+_, _-_, _*_, _<_, _≤_}
 use mathlib.Core.List.{List}
 use lib.IntN.{ℤ, pos, negsuc}
 use lib.ListN.{length, getD, set}
@@ -69,14 +69,37 @@ nothingThere = 256
 abbrev pub slotOf : ℕ → ℤ → ℕ → Slot
 slotOf kind number label = record { kind = kind; number = number; label = record { 0 = label } }
 
--- a stored kind word: 0 is a value's, any other a frame's
+-- a stored kind word: 0 is a value's, 2 that of a frame that owes a result, any other that of a frame that owes none
 abbrev pub kindOf : ℤ → ℕ
-kindOf (pos n) = choose (eqb n 0) 0 1
+kindOf (pos n) = choose (eqb n 0) 0 (choose (eqb n 2) 2 1)
 kindOf (negsuc n) = 1
 
 -- entry i of the stack, counted from the bottom
 unfoldable pub entryAt : List ℤ → ℕ → Slot
 entryAt stack i = slotOf (kindOf (getD stack (3 * i) (pos 0))) (getD stack (3 * i + 1) (pos 0)) (lowLabel (getD stack (3 * i + 2) (pos 0)))
+
+-- an entry of a space for all 256 of them
+abbrev pub Entry : List ℤ → ℕ → Type 0
+Entry stack i = (i < 256) × (768 ≤ length stack)
+
+-- the value of entry i, stored in the one above it
+unfoldable pub raised : List ℤ → ℕ → List ℤ
+raised stack i = setEntry stack (i + 1) (pos 0) (entryAt stack i .number) (entryAt stack i .label .0)
+
+-- so many values from entry i on, each one higher, the uppermost first
+unfoldable pub lifted : List ℤ → ℕ → ℕ → List ℤ
+lifted stack i zero = stack
+lifted stack i (suc n) = lifted (raised stack (i + n)) i n
+
+-- an entry in place of the top, but under the n values below that, which go one higher
+unfoldable pub insertedStack : Machine → ℕ → List ℤ → ℤ → ℤ → ℕ → List ℤ
+insertedStack m n stack kind number label =
+    let i = m .depth - n - 1 in
+    choose (ltb n (m .depth))
+    (choose (leb (m .depth) 256)
+    (choose (leb 768 (length stack)) (setEntry (lifted stack i n) i kind number label) stack)
+    stack)
+    stack
 
 -- the entry so many below the top of a stack of `depth` entries; nothing where these are over 256, or in a space for less
 unfoldable pub slotAt : List ℤ → ℕ → ℕ → Slot

@@ -2,9 +2,11 @@
 use label::Label;
 use word::kind::Pc;
 ghost use mathlib.Core.Path.{_≡_};
+ghost use Prim.Native.Nat.{_+_};
 ghost use lib.IntN.{pos};
 ghost use Rattle.stack.specs.Words.{started, pushed, pushedStack, refilledStack, dropped, gone, following, printed};
-ghost use Rattle.stack.specs.Words.{outcome, carriedOut, printing, slotOf, nothingThere, slotAt};
+ghost use Rattle.stack.specs.Words.{outcome, carriedOut, printing, slotOf, nothingThere, slotAt, Entry, setEntry};
+ghost use Rattle.stack.specs.Words.{raised, lifted, insertedStack};
 
 // The machine record: the place, its label, how many entries the stack has and how many lines are written.
 pub struct Machine {
@@ -36,14 +38,27 @@ impl Machine {
         let depth = self.depth;
         if depth < 256 {
             if 768 <= stack.len() {
-                let i = 3 * depth;
-                stack[i] = kind;
-                stack[i + 1] = number;
-                stack[i + 2] = label.word();
+                put(stack, depth, kind, number, label);
             }
             self.depth = depth + 1;
         }
         self
+    }
+
+    // An entry in place of the top, but under the values below that, so many of which go one higher in their order.
+    pub fn insert(self, below: usize, stack: &mut [i64], kind: i64, number: i64, label: Label)
+        ensures { λ _. ⌜ now (stack .exit) ≡ insertedStack self below (now (stack .entry)) kind number (label .0) ⌝ }
+    {
+        let depth = self.depth;
+        if below < depth {
+            if depth <= 256 {
+                if 768 <= stack.len() {
+                    let i = depth - below - 1;
+                    lift(stack, i, below);
+                    put(stack, i, kind, number, label);
+                }
+            }
+        }
     }
 
     // An entry more, whose kind stays as the stack has it: one that was just dropped, with another number and label.
@@ -102,6 +117,40 @@ impl Machine {
     }
 }
 
+// An entry, counted from the bottom: its kind, number and label.
+fn put(stack: &mut [i64], entry: usize, kind: i64, number: i64, label: Label)
+    requires { ⌜ Entry (now stack) entry ⌝ }
+    ensures { λ _. ⌜ now (stack .exit) ≡ setEntry (now (stack .entry)) entry kind number (label .0) ⌝ }
+{
+    let i = 3 * entry;
+    stack[i] = kind;
+    stack[i + 1] = number;
+    stack[i + 2] = label.word();
+}
+
+// The value of an entry, stored in the one above it.
+fn raise(stack: &mut [i64], entry: usize)
+    requires { ⌜ Entry (now stack) (entry + 1) ⌝ }
+    ensures { λ _. ⌜ now (stack .exit) ≡ raised (now (stack .entry)) entry ⌝ }
+{
+    let i = 3 * entry;
+    let number = stack[i + 1];
+    let label = Label::low(stack[i + 2]);
+    put(stack, entry + 1, 0, number, label);
+}
+
+// So many values from an entry on, each one higher, the uppermost first.
+fn lift(stack: &mut [i64], entry: usize, count: usize)
+    requires { ⌜ Entry (now stack) (entry + count) ⌝ }
+    ensures { λ _. ⌜ now (stack .exit) ≡ lifted (now (stack .entry)) entry count ⌝ }
+{
+    let mut left = count;
+    while 0 < left {
+        left -= 1;
+        raise(stack, entry + left);
+    }
+}
+
 // What stands where a stop's number does, and is no stop of documents 01 and 02: the command was carried out.
 pub const CARRIED: u64 = 256;
 
@@ -154,7 +203,7 @@ pub fn printing(machine: Machine, page: i64, number: i64, label: Label) -> Stepp
 // The kind of an entry that is not there: no kind word of documents 01 and 02.
 pub const NOTHING: u64 = 256;
 
-// What stands on the stack, counted from the top: a value (kind 0), a frame (kind 1) or nothing.
+// What stands on the stack, counted from the top: a value (kind 0), a frame that owes no result (1) or one (2), or nothing.
 pub struct Slot {
     pub kind: u64,
     pub number: i64,
@@ -189,16 +238,22 @@ pub fn look(stack: &[i64], depth: usize, below: usize) -> Slot
     let number = stack[i + 1];
     let label = Label::low(stack[i + 2]);
     if kind == 0 {
-        Slot {
+        return Slot {
             kind: 0,
             number,
             label,
-        }
-    } else {
-        Slot {
-            kind: 1,
+        };
+    }
+    if kind == 2 {
+        return Slot {
+            kind: 2,
             number,
             label,
-        }
+        };
+    }
+    Slot {
+        kind: 1,
+        number,
+        label,
     }
 }

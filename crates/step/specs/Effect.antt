@@ -9,9 +9,11 @@ use Rattle.word.specs.Wrap.{addWrap}
 use Rattle.word.specs.declared.exact.Exact.{Exact}
 use Rattle.word.specs.declared.exact.Exact.the-variants as Exact
 use Rattle.word.specs.Exact.{exactly}
+use Rattle.program.specs.Command.{argumentsOf, resultsOf}
 use Rattle.stack.specs.declared.Machine.{Machine}
 use Rattle.stack.specs.declared.Stepped.{Stepped}
-use Rattle.stack.specs.Words.{pushed, pushedStack, refilledStack, dropped, gone, following, outcome, carriedOut, printing}
+use Rattle.stack.specs.Words.{pushed, pushedStack, refilledStack, insertedStack, dropped, gone, following, outcome, carriedOut}
+use Rattle.stack.specs.Words.{printing}
 use Rattle.step.specs.declared.cell.Content.{Content}
 use Rattle.step.specs.declared.cell.Content.the-variants.{Number, Outside}
 use Rattle.step.specs.Lent.{Cells, Lent, After, after, OnStack, onStack, withStack, OnCells, onCells, withCells}
@@ -25,6 +27,10 @@ sumOf code a b = choose (eqb code 1) (exactly (a +ℤ b)) (exactly (a -ℤ b))
 -- Bnz's target: a place and an operand of a sheet, whose sum does not wrap
 unfoldable pub branchOf : ℤ → ℤ → ℤ → ℤ
 branchOf number pc operand = choose (isZero number) (addWrap pc (pos 1)) (addWrap pc operand)
+
+-- the kind word of a frame: 2 where a result is due, else 1
+abbrev pub frameKind : ℕ → ℤ
+frameKind results = choose (ltb 0 results) (pos 2) (pos 1)
 
 -- a value in place of one that m just dropped
 abbrev pub refilling : Machine → List ℤ → ℤ → ℕ → ℕ → OnStack
@@ -63,14 +69,20 @@ module _ (p r : ℕ) (m : Machine) where
       (choose (isCell cell) (outcome (following (dropped (dropped m)) p) carriedOut) (outcome m 5))
       (written (second m stack .number) r c cell)
 
-  -- the argument is pushed again above the frame
-  unfoldable pub callEffect : List ℤ → OnStack
-  callEffect stack =
-      let under = dropped (dropped m) in
-      let framed = pushedStack under stack (pos 1) (addWrap (m .pc .0) (pos 1)) r in
+  -- a frame of a kind under so many arguments
+  unfoldable pub callEffect : ℕ → ℤ → List ℤ → OnStack
+  callEffect n kind stack =
       onStack
-      (outcome (gone (pushed (pushed under)) (first m stack .number) p) carriedOut)
-      (pushedStack (pushed under) framed (pos 0) (second m stack .number) (second m stack .label .0))
+      (outcome (gone m (first m stack .number) p) carriedOut)
+      (insertedStack m n stack kind (addWrap (m .pc .0) (pos 1)) r)
+
+  -- to the frame's place; the value stands where the frame stood
+  unfoldable pub returnEffect : List ℤ → OnStack
+  returnEffect stack =
+      let under = dropped (dropped m) in
+      onStack
+      (outcome (gone (pushed under) (second m stack .number) p) carriedOut)
+      (pushedStack under stack (pos 0) (first m stack .number) r)
 
 -- those without a result
 module _ (p : ℕ) (m : Machine) where
@@ -99,6 +111,10 @@ effectOf p r m code operand l =
     (withCells l (storeEffect p r m (l .stack) (l .cells))))
     (choose (ltb code 10)
     (choose (eqb code 8) (after (jumpEffect p m (l .stack)) l) (after (bnzEffect p m operand (l .stack)) l))
-    (choose (eqb code 10)
-    (withStack l (callEffect p r m (l .stack)))
-    (choose (eqb code 11) (after (jumpEffect p m (l .stack)) l) (after (outputEffect p r m operand (l .stack)) l)))))
+    (choose (ltb code 12)
+    (choose (eqb code 10) (withStack l (callEffect p r m 1 (pos 1) (l .stack))) (after (jumpEffect p m (l .stack)) l))
+    (choose (ltb code 14)
+    (choose (eqb code 12)
+    (after (outputEffect p r m operand (l .stack)) l)
+    (withStack l (callEffect p r m (argumentsOf operand) (frameKind (resultsOf operand)) (l .stack))))
+    (withStack l (returnEffect p r m (l .stack)))))))

@@ -1,11 +1,12 @@
 -- What a command finds on lent words: a stop, or the labels of its inputs.
-use Prim.Native.Nat.{ℕ}
-use mathlib.Core.Bool.{Bool}
+use Prim.Native.Nat.{ℕ, zero, suc}
+use mathlib.Core.Bool.{Bool, true, false}
 use mathlib.Core.List.{List}
 use lib.IntN.{ℤ}
 use lib.Dec.{ltb, eqb}
 use Rattle.word.specs.Choose.{choose}
 use Rattle.label.specs.Label.{bottom}
+use Rattle.program.specs.Command.{argumentsOf}
 use Rattle.stack.specs.declared.Machine.{Machine}
 use Rattle.stack.specs.declared.Slot.{Slot}
 use Rattle.stack.specs.Words.{carriedOut, slotAt}
@@ -27,8 +28,14 @@ halted stop =
 abbrev pub isValue : Slot → Bool
 isValue s = eqb (s .kind) 0
 
-abbrev pub isFrame : Slot → Bool
-isFrame s = eqb (s .kind) 1
+-- the topmost so many entries of a stack are values
+unfoldable pub topValues : List ℤ → (depth : ℕ) → ℕ → Bool
+topValues stack depth zero = true
+topValues stack depth (suc n) = choose (isValue (slotAt stack depth n)) (topValues stack depth n) false
+
+-- a frame of the kind that is wanted; one of the other kind is stop 11
+abbrev pub ifFrame : (wanted other : ℕ) → Slot → Inputs → Inputs
+ifFrame wanted other s found = choose (eqb (s .kind) wanted) found (choose (eqb (s .kind) other) (halted 11) (halted 4))
 
 module _ (m : Machine) (stack : List ℤ) where
   -- the top, the next
@@ -45,18 +52,21 @@ module _ (m : Machine) (stack : List ℤ) where
   abbrev pub ifValues : Inputs → Inputs
   ifValues found = choose (isValue second) (ifValue found) (halted 3)
 
-  -- Pop, Output, Jump, Bnz, OutputTo; Add, Sub; Call; Ret
+  -- Pop, Output, Jump, Bnz, OutputTo; Add, Sub; Call and CallN, with so many arguments; Ret; RetV
   unfoldable pub oneValue : Inputs
   oneValue = ifValue (inputs 1 (first .label .0) bottom bottom)
 
   unfoldable pub twoValues : Inputs
   twoValues = ifValues (inputs 2 (first .label .0) (second .label .0) bottom)
 
-  unfoldable pub callValues : Inputs
-  callValues = ifValues (inputs 1 (first .label .0) bottom bottom)
+  unfoldable pub callValues : ℕ → Inputs
+  callValues n = choose (topValues stack (m .depth) (suc n)) (inputs 1 (first .label .0) bottom bottom) (halted 3)
 
   unfoldable pub oneFrame : Inputs
-  oneFrame = choose (isFrame first) (inputs 1 (first .label .0) bottom bottom) (halted 4)
+  oneFrame = ifFrame 1 2 first (inputs 1 (first .label .0) bottom bottom)
+
+  unfoldable pub valueAndFrame : Inputs
+  valueAndFrame = ifValue (ifFrame 2 1 second (inputs 2 (first .label .0) (second .label .0) bottom))
 
 module _ (m : Machine) (l : Lent) where
   -- the label of the cell at the address on top
@@ -78,13 +88,16 @@ module _ (m : Machine) (l : Lent) where
   storeCell = ifValues m (l .stack) (storeFinding addressed)
 
 -- by the code of the command, as the code of this crate chooses
-unfoldable pub findOf : ℕ → Machine → Lent → Inputs
-findOf code m l =
+unfoldable pub findOf : ℕ → ℤ → Machine → Lent → Inputs
+findOf code operand m l =
     choose (ltb code 6)
     (choose (ltb code 3) (twoValues m (l .stack))
     (choose (ltb code 5) (oneValue m (l .stack)) (inputs 0 bottom bottom bottom)))
     (choose (ltb code 8)
     (choose (eqb code 6) (loadCell m l) (storeCell m l))
     (choose (ltb code 10) (oneValue m (l .stack))
-    (choose (eqb code 10) (callValues m (l .stack))
-    (choose (eqb code 11) (oneFrame m (l .stack)) (oneValue m (l .stack))))))
+    (choose (ltb code 12)
+    (choose (eqb code 10) (callValues m (l .stack) 1) (oneFrame m (l .stack)))
+    (choose (ltb code 14)
+    (choose (eqb code 12) (oneValue m (l .stack)) (callValues m (l .stack) (argumentsOf operand)))
+    (valueAndFrame m (l .stack))))))

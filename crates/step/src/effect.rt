@@ -10,7 +10,8 @@ use word::kind::Pc;
 ghost use mathlib.Core.Path.{_≡_};
 ghost use Rattle.step.specs.Lent.{cells, lent, after, onStack, onCells};
 ghost use Rattle.step.specs.Effect.{sumOf, branchOf, arithEffect, popEffect, outputEffect, pushEffect};
-ghost use Rattle.step.specs.Effect.{loadEffect, storeEffect, jumpEffect, bnzEffect, callEffect, effectOf};
+ghost use Rattle.step.specs.Effect.{loadEffect, storeEffect, jumpEffect, bnzEffect, frameKind, callEffect, returnEffect};
+ghost use Rattle.step.specs.Effect.{effectOf};
 
 // What Add (code 1) and Sub make of two values.
 fn sum(code: u64, a: i64, b: i64) -> Exact
@@ -137,18 +138,41 @@ pub fn bnz(place: Label, m: Machine, operand: i64, stack: &[i64]) -> Stepped
     stack::carried(m.drop().goto(target, place))
 }
 
-// Call: the frame has the result label, the argument keeps its own.
-pub fn call(place: Label, result: Label, m: Machine, stack: &mut [i64]) -> Stepped
-    ensures { λ r. ⌜ onStack r (now (stack .exit)) ≡ callEffect (place .0) (result .0) m (now (stack .entry)) ⌝ }
+// Call and CallN: a frame of this kind, with the result label, stands under so many arguments, which keep theirs.
+pub fn call(
+    place: Label,
+    result: Label,
+    m: Machine,
+    arguments: usize,
+    kind: i64,
+    stack: &mut [i64],
+) -> Stepped
+    ensures { λ r. ⌜ onStack r (now (stack .exit)) ≡ callEffect (place .0) (result .0) m arguments kind (now (stack .entry)) ⌝ }
 {
     let depth = m.depth;
     let pc = m.pc;
-    let b = stack::look(stack, depth, 1);
     let a = stack::look(stack, depth, 0);
     let back = pc.offset(1);
-    let framed = m.drop().drop().push(stack, 1, back.0, result);
-    let over = framed.push(stack, 0, b.number, b.label);
-    stack::carried(over.goto(Pc(a.number), place))
+    m.insert(arguments, stack, kind, back.0, result);
+    stack::carried(m.goto(Pc(a.number), place))
+}
+
+// The kind word of a frame to which so many results are due.
+pub fn frame_kind(results: u64) -> i64
+    ensures { λ r. ⌜ r ≡ frameKind results ⌝ }
+{
+    if 0 < results { 2 } else { 1 }
+}
+
+// RetV: to the frame's place; the value, with the result label, stands where the frame stood.
+pub fn return_value(place: Label, result: Label, m: Machine, stack: &mut [i64]) -> Stepped
+    ensures { λ r. ⌜ onStack r (now (stack .exit)) ≡ returnEffect (place .0) (result .0) m (now (stack .entry)) ⌝ }
+{
+    let depth = m.depth;
+    let a = stack::look(stack, depth, 0);
+    let b = stack::look(stack, depth, 1);
+    let over = m.drop().drop().push(stack, 0, a.number, result);
+    stack::carried(over.goto(Pc(b.number), place))
 }
 
 // By the command's code, chosen by a tree of tests.
@@ -190,11 +214,19 @@ pub fn effect(
         }
         return bnz(place, m, operand, stack);
     }
-    if code == 10 {
-        return call(place, result, m, stack);
-    }
-    if code == 11 {
+    if code < 12 {
+        if code == 10 {
+            return call(place, result, m, 1, 1, stack);
+        }
         return jump(place, m, stack);
     }
-    output(place, result, m, operand, stack)
+    if code < 14 {
+        if code == 12 {
+            return output(place, result, m, operand, stack);
+        }
+        let arguments = program::arguments_of(operand) as usize;
+        let kind = frame_kind(program::results_of(operand));
+        return call(place, result, m, arguments, kind, stack);
+    }
+    return_value(place, result, m, stack)
 }

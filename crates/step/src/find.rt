@@ -7,7 +7,8 @@ use stack::Machine;
 use word::kind::Address;
 ghost use mathlib.Core.Path.{_≡_};
 ghost use Rattle.step.specs.Lent.{cells, lent};
-ghost use Rattle.step.specs.Find.{inputs, halted, twoValues, oneValue, callValues, oneFrame, loadCell, storeCell, findOf};
+ghost use Rattle.step.specs.Find.{inputs, halted, twoValues, oneValue, callValues, oneFrame, valueAndFrame};
+ghost use Rattle.step.specs.Find.{loadCell, storeCell, findOf};
 
 // What a command finds: a stop, or with CARRIED how many inputs it supplies and their labels; those of missing ones are empty.
 pub struct Inputs {
@@ -77,18 +78,23 @@ pub fn two_values(m: Machine, stack: &[i64]) -> Inputs
     found(2, a.label, b.label, Label::EMPTY)
 }
 
-// Call: a target, and the argument, a value that no rule asks about; else stop 3.
-pub fn call_values(m: Machine, stack: &[i64]) -> Inputs
-    ensures { λ r. ⌜ r ≡ callValues m (now (stack .entry)) ⌝ }
+// Call and CallN: a target and under it so many arguments, values that no rule asks about; else stop 3.
+pub fn call_values(m: Machine, arguments: usize, stack: &[i64]) -> Inputs
+    ensures { λ r. ⌜ r ≡ callValues m (now (stack .entry)) arguments ⌝ }
 {
-    let both = two_values(m, stack);
-    if both.stop != CARRIED {
-        return both;
+    let depth = m.depth;
+    let mut left = arguments;
+    while 0 < left {
+        let argument = stack::look(stack, depth, left);
+        if argument.kind != 0 {
+            return halt(3);
+        }
+        left -= 1;
     }
-    found(1, both.input1, Label::EMPTY, Label::EMPTY)
+    one_value(m, stack)
 }
 
-// Ret: a frame, else stop 4.
+// Ret: a frame, else stop 4, that owes no result, else stop 11.
 pub fn one_frame(m: Machine, stack: &[i64]) -> Inputs
     ensures { λ r. ⌜ r ≡ oneFrame m (now (stack .entry)) ⌝ }
 {
@@ -96,6 +102,28 @@ pub fn one_frame(m: Machine, stack: &[i64]) -> Inputs
     let a = stack::look(stack, depth, 0);
     if a.kind == 1 {
         return found(1, a.label, Label::EMPTY, Label::EMPTY);
+    }
+    if a.kind == 2 {
+        return halt(11);
+    }
+    halt(4)
+}
+
+// RetV: a value, else stop 3, and under it a frame, else stop 4, that owes a result, else stop 11.
+pub fn value_and_frame(m: Machine, stack: &[i64]) -> Inputs
+    ensures { λ r. ⌜ r ≡ valueAndFrame m (now (stack .entry)) ⌝ }
+{
+    let depth = m.depth;
+    let a = stack::look(stack, depth, 0);
+    if a.kind != 0 {
+        return halt(3);
+    }
+    let b = stack::look(stack, depth, 1);
+    if b.kind == 2 {
+        return found(2, a.label, b.label, Label::EMPTY);
+    }
+    if b.kind == 1 {
+        return halt(11);
     }
     halt(4)
 }
@@ -137,8 +165,15 @@ pub fn store_cell(m: Machine, stack: &[i64], values: &[i64], labels: &[i64]) -> 
 }
 
 // By the command's code, chosen by a tree of tests.
-pub fn find(code: u64, m: Machine, stack: &[i64], values: &[i64], labels: &[i64]) -> Inputs
-    ensures { λ r. ⌜ r ≡ findOf code m (lent (now (stack .entry)) (cells (now (values .entry)) (now (labels .entry)))) ⌝ }
+pub fn find(
+    code: u64,
+    operand: i64,
+    m: Machine,
+    stack: &[i64],
+    values: &[i64],
+    labels: &[i64],
+) -> Inputs
+    ensures { λ r. ⌜ r ≡ findOf code operand m (lent (now (stack .entry)) (cells (now (values .entry)) (now (labels .entry)))) ⌝ }
 {
     if code < 6 {
         if code < 3 {
@@ -158,11 +193,17 @@ pub fn find(code: u64, m: Machine, stack: &[i64], values: &[i64], labels: &[i64]
     if code < 10 {
         return one_value(m, stack);
     }
-    if code == 10 {
-        return call_values(m, stack);
-    }
-    if code == 11 {
+    if code < 12 {
+        if code == 10 {
+            return call_values(m, 1, stack);
+        }
         return one_frame(m, stack);
     }
-    one_value(m, stack)
+    if code < 14 {
+        if code == 12 {
+            return one_value(m, stack);
+        }
+        return call_values(m, program::arguments_of(operand) as usize, stack);
+    }
+    value_and_frame(m, stack)
 }

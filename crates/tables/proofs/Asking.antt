@@ -19,7 +19,7 @@ use Rattle.tables.specs.declared.RuleRead.the-variants as RuleRead
 use Rattle.policy.specs.Expression.{Rule, Table}
 use Rattle.policy.specs.Evaluate.{evalRule, evaluate}
 use Rattle.policy.specs.Read.{Read, fault, found, prepend, ruleCount, readRules, ReadTable, refused, table, whole, wholeIf, tableIf}
-use Rattle.policy.specs.Read.{tableLimit, readTable}
+use Rattle.policy.specs.Read.{ownerCode, tableLimit, readTable}
 use Rattle.tables.specs.Value.{keyOf}
 use Rattle.tables.specs.Ask.{verdictOf, CodeAt, checkAnswer, Readable, RuleSays}
 use Rattle.policy.proofs.Tokens.{getElem-drop}
@@ -78,12 +78,12 @@ module _ (ls : Labels) (s : List ℕ) (number i at : ℕ) (p : Passing s number 
   i-few : i < ruleCount
   i-few = omega (arith, p .before, p .few)
 
-  pub passing-whole : (q : ℕ) → CodeAt (opcodeOf (i + 1)) ls s at (RuleRead.Fault q) → ⊥
+  pub passing-whole : (q : ℕ) → CodeAt (opcodeOf (ownerCode i)) ls s at (RuleRead.Fault q) → ⊥
   passing-whole q f =
       let d : fault q ≡ found (drop i (p .rules)) (p .end) = sym (reads ls s i at i-few (RuleRead.Fault q) f) ∙ p .left in
       never (cc)
 
-  module _ (v : Verdict) (next : ℕ) (f : CodeAt (opcodeOf (i + 1)) ls s at (RuleRead.Is v next)) where
+  module _ (v : Verdict) (next : ℕ) (f : CodeAt (opcodeOf (ownerCode i)) ls s at (RuleRead.Is v next)) where
     n : Next ls s i at v next
     n = reads ls s i at i-few (RuleRead.Is v next) f
 

@@ -21,7 +21,8 @@ use Rattle.tables.specs.declared.RuleRead.the-variants as RuleRead
 use Rattle.policy.specs.Expression.{Rule, Table}
 use Rattle.policy.specs.Evaluate.{evalRule}
 use Rattle.policy.proofs.Ruled.{ruled-code}
-use Rattle.policy.specs.Read.{Read, fault, found, prepend, ruleCount, readRule, readRules, whole, wholeIf, tableLimit, readTable}
+use Rattle.policy.specs.Read.{Read, fault, found, prepend, ruleCount, ownerCode, readRule, readRules, whole, wholeIf, tableLimit}
+use Rattle.policy.specs.Read.{readTable}
 use Rattle.tables.specs.Value.{keyOf}
 use Rattle.tables.specs.Ask.{verdictOf, ruleRead, CodeAt, checkAnswer}
 
@@ -39,8 +40,8 @@ element (x ∷ l) (suc i) h =
     let d : suc i + 1 ≡ suc (i + 1) = omega arith in
     record { here = e .here; at = e .at; rest = rw d (e .rest) }
 
--- the rule with number i, which belongs to the command with code i + 1: what it says to whichever command asks, and what reading says of
--- the rules from there on
+-- the rule with number i and the command that it belongs to: what it says to whichever command asks, and what reading says of the rules
+-- from there on
 pub record Next (ls : Labels) (s : List ℕ) (i at : ℕ) (v : Verdict) (next : ℕ) : Type 0 where
   pub owner : Opcode
   pub owns : getElem? ruled i ≡ some owner
@@ -64,7 +65,7 @@ module _ (ls : Labels) (s : List ℕ) (i at : ℕ) (h : i < ruleCount) where
       let k : end ≡ next = cc in
       record { owner = e .here; owns = e .at; rule = x; said = λ o. let g = f o in cc; rules = rw (e .rest, d, k) }
 
-  pub reads : (r : RuleRead) → CodeAt (opcodeOf (i + 1)) ls s at r → Reads ls s i at r
+  pub reads : (r : RuleRead) → CodeAt (opcodeOf (ownerCode i)) ls s at r → Reads ls s i at r
   reads r f =
       let e = element ruled i h in
       reads-rule e (readRule (e .here) s at) refl r (rw (ruled-code i (e .here) (e .at)) at f)
@@ -96,11 +97,11 @@ checking-start s h = record { few = omega arith; answer = rw (le-leb (length s) 
 
 module _ (s : List ℕ) (i at : ℕ) (c : Checking s i at) where
   module _ (ls : Labels) (h : i < ruleCount) where
-    pub checking-fault : (p : ℕ) → CodeAt (opcodeOf (i + 1)) ls s at (RuleRead.Fault p)
+    pub checking-fault : (p : ℕ) → CodeAt (opcodeOf (ownerCode i)) ls s at (RuleRead.Fault p)
         → Checked.Refused (refusal 6 p) ≡ checkAnswer (readTable s)
     checking-fault p f = ap (λ x. checkAnswer (whole (length s) x)) (sym (reads ls s i at h (RuleRead.Fault p) f)) ∙ c .answer
 
-    pub checking-next : (v : Verdict) (next : ℕ) → CodeAt (opcodeOf (i + 1)) ls s at (RuleRead.Is v next) → Checking s (i + 1) next
+    pub checking-next : (v : Verdict) (next : ℕ) → CodeAt (opcodeOf (ownerCode i)) ls s at (RuleRead.Is v next) → Checking s (i + 1) next
     checking-next v next f =
         let n = reads ls s i at h (RuleRead.Is v next) f in
         record {

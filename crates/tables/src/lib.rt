@@ -16,6 +16,7 @@ use expression::read_condition;
 use expression::read_label;
 use label::Label;
 use policy::RULES;
+use policy::owner;
 use program::Refusal;
 use program::Shape;
 use program::shape_of;
@@ -113,8 +114,7 @@ fn read_rule(bytes: &[u8], at: usize, code: u64, labels: Labels) -> RuleRead
     }
 }
 
-// Check 6 of document 01 over any bytes. The rule with number i belongs to the command with the code i + 1. Any labels do, as the
-// verdicts are not looked at.
+// Check 6 of document 01 over any bytes. Any labels do, as the verdicts are not looked at.
 pub fn check_table(bytes: &[u8]) -> Checked
     ensures { λ r. ⌜ r ≡ checkAnswer (readTable (now (bytes .entry))) ⌝ }
 {
@@ -133,7 +133,7 @@ pub fn check_table(bytes: &[u8]) -> Checked
     let mut at: usize = 0;
     let mut i: u64 = 0;
     while i < RULES {
-        let rule = read_rule(bytes, at, i + 1, labels);
+        let rule = read_rule(bytes, at, owner(i), labels);
         match rule {
             RuleRead::Is(_, next) => {
                 at = next;
@@ -165,7 +165,7 @@ fn rule_of(bytes: &[u8], number: u64, labels: Labels) -> Verdict
     let mut at: usize = 0;
     let mut i: u64 = 0;
     while i < number {
-        let rule = read_rule(bytes, at, i + 1, labels);
+        let rule = read_rule(bytes, at, owner(i), labels);
         match rule {
             RuleRead::Is(_, next) => {
                 at = next;
@@ -174,7 +174,7 @@ fn rule_of(bytes: &[u8], number: u64, labels: Labels) -> Verdict
             RuleRead::Fault(_) => return Verdict::Denied,
         }
     }
-    let rule = read_rule(bytes, at, i + 1, labels);
+    let rule = read_rule(bytes, at, owner(i), labels);
     match rule {
         RuleRead::Is(verdict, _) => verdict,
         RuleRead::Fault(_) => Verdict::Denied,

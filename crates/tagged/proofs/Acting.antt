@@ -36,7 +36,7 @@ module _ (handler : List ℤ → Result) (word operand : ℤ) (m : Machine) (l :
   abbrev does : Verdict → After
   does v = ruled (tagWords handler) word operand m u l v
 
-  module _ (i : Inputs) (found : i ≡ findOf (residue 64 word) m l) where
+  module _ (i : Inputs) (found : i ≡ findOf (residue 64 word) operand m l) where
     -- the test of the stop decides
     by-stop : (b : Bool) → eqb (i .stop) carriedOut ≡ b
         → let c : Consulted = consult handler (fiveFor (asks i)) row in

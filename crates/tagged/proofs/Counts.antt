@@ -64,7 +64,7 @@ module _ (handler : List ℤ → Result) (word operand : ℤ) (m : Machine) (l :
 
   added-all : (u : Tag) → let a : Acted Tag = acts (tag (u .row) 0 0) in acts u ≡ acted (a .after) (added u (a .ruler))
   unfolding actOf
-  added-all u = choose-added u (eqb (findOf (residue 64 word) m l .stop) carriedOut) _ _ _ _ (simp zero-add) (simp add-zero)
+  added-all u = choose-added u (eqb (findOf (residue 64 word) operand m l .stop) carriedOut) _ _ _ _ (simp zero-add) (simp add-zero)
 
   -- a command does the same whatever the counts are, and adds to them
   pub act-added : (u : Tag) (a : Acted Tag) → a ≡ acts (tag (u .row) 0 0) → acted (a .after) (added u (a .ruler)) ≡ acts u
@@ -86,7 +86,7 @@ module _ (handler : List ℤ → Result) (word operand : ℤ) (m : Machine) (l :
     few-all : (row : List ℤ) → Few size 1 (acts (tag row 0 0) .ruler)
     unfolding actOf
     few-all row =
-        choose-few (eqb (findOf (residue 64 word) m l .stop) carriedOut) _ _ (consult-few row _)
+        choose-few (eqb (findOf (residue 64 word) operand m l .stop) carriedOut) _ _ (consult-few row _)
         (record { faults = omega arith; kernelSteps = omega arith })
 
     pub act-few : (row : List ℤ) (a : Acted Tag) → a ≡ acts (tag row 0 0) → Few size 1 (a .ruler)

@@ -55,7 +55,7 @@ fn act(
 {
     let code = word::wrap::to_bits(word);
     let place = m.label;
-    let found = find(code, m, stack, values, labels);
+    let found = find(code, operand, m, stack, values, labels);
     let stop = found.stop;
     if stop != CARRIED {
         return Acted {

@@ -45,8 +45,8 @@ const OR: i64 = code::OR as i64;
 
 const DUP: i64 = code::DUP as i64;
 
-// A slot for each code, up to OutputTo's, behind the six instructions of the computed jump; the first rule's body stands behind them.
-const CODES: usize = program::code::OUTPUT_TO as usize;
+// A slot for each code, up to RetV's, behind the six instructions of the computed jump; the first rule's body stands behind them.
+const CODES: usize = program::code::RET_V as usize;
 
 const FIRST: usize = 6 + CODES;
 

@@ -6,7 +6,7 @@ use crate::random::Random;
 use crate::shrink::shrink;
 use crate::tally::Tally;
 use model::engine::{judged, plain, tagged, tagged_noted, Handler, Lent, ALLOWANCE, CLEARED_FOR_ALL};
-use model::machine::{whole, Judge};
+use model::machine::{whole, Entry, Judge, Stack};
 use model::page::{page, read};
 use model::rules::{standard, Labels, Question, RuleMemory, Table, STANDARD};
 use model::sheet::Command;
@@ -59,6 +59,11 @@ impl Judge for Noted<'_> {
         let number = i64::try_from(whole(command, top, under)).ok()?;
         self.0.combined(command, number);
         Some(number)
+    }
+
+    fn call(&mut self, stack: &mut Stack, command: Command, arguments: usize, frame: Entry) {
+        self.0.carried.call(command);
+        stack.call(arguments, frame);
     }
 
     fn printed(&mut self, _place: i64, command: Command) {
@@ -120,6 +125,7 @@ fn compare_tagged(backend: &dyn Backend, start: &Start, tally: &mut Tally) -> Re
     });
     tally.tagged.clearances.note(&answer, start, &by_model, later);
     tally.tagged.clearances.note_tagged(&answer, start, &by_model, table.as_ref().ok(), later, matched);
+    tally.tagged.calls.note_tagged(&answer, start, &by_model, table.as_ref().ok());
     if answer.words[0] == 0 {
         if let (Ok(table), true) = (&table, start.table != STANDARD) {
             tally.other_table(table, count);
@@ -170,6 +176,7 @@ fn compare_page(backend: &dyn Backend, random: &mut Random, tally: &mut Tally) -
         Ok(_) if expected.starts_with("refused") => {
             tally.job_refusals += 1;
             tally.job_pages_refused += u64::from(expected.starts_with("refused 12 "));
+            tally.job_calls_refused += u64::from(expected.starts_with("refused 14 "));
         }
         Ok(_) => {
             tally.pages += 1;

@@ -1,6 +1,7 @@
 //! Makes starts and jobs. Sheets are built of loops, calls, branches on hidden data and stores, so that runs go deep;
 //! then some of them are damaged, as are cells, clearances, tables, rule memories and spaces.
 
+mod calls;
 pub mod clearances;
 
 use self::clearances::owner;
@@ -8,7 +9,7 @@ use crate::random::Random;
 use model::engine::{plain, Lent, Report, CLEARED_FOR_ALL};
 use model::machine::{Kind, Stop};
 use model::rules::{
-    result_is_empty, LabelTree, Question, Rule, Table, YesNoTree, DEPTH, STANDARD, TABLE_BYTES,
+    result_is_empty, LabelTree, Question, Rule, Table, YesNoTree, DEPTH, RULED, STANDARD, TABLE_BYTES,
 };
 use model::sheet::{decode, encode, inputs_of, Command, Command::*, COMMANDS, PAGES};
 use model::{Atom, Label};
@@ -189,6 +190,9 @@ impl Builder<'_> {
             1,
             1,
             3,
+            deeper,
+            deeper / 2,
+            deeper / 4,
         ]) {
             0 => {
                 self.value(2);
@@ -243,10 +247,13 @@ impl Builder<'_> {
             }
             13 => self.put(Ret),
             15 => self.prints(),
+            16 => self.call_n(depth),
+            17 => self.either_way(),
+            18 => self.chain(),
             _ => {
                 let target = number(self.random);
                 self.put(Push(target));
-                let command = self.random.pick(&[Jump, Load, Call]);
+                let command = self.random.pick(&[Jump, Load, Call, CallN(0, 0), CallN(0, 1)]);
                 self.put(command);
             }
         }
@@ -300,38 +307,28 @@ impl Builder<'_> {
         self.branch_back(start);
     }
 
-    /// A call to a body that stands behind the place it returns to, its target pushed or fetched from a cell.
+    /// A call to a body that stands behind the place it returns to.
     fn call(&mut self, depth: usize) {
         self.value(1);
-        let target = self.commands.len();
-        self.put(Push(0));
-        if self.random.percent(25) {
-            let address = self.address();
-            for command in [Push(address), Store, Push(address), Load] {
-                self.put(command);
-            }
-        }
+        let target = self.target();
         self.put(Call);
-        let skip = self.commands.len();
-        self.put(Push(0));
-        self.put(Jump);
-        self.commands[target] = Push(self.here());
-        match self.random.weighted(&[40, 25, 25, 10]) {
-            0 => self.put(Pop),
-            1 => self.print(),
-            2 => {
-                let branch = self.commands.len();
-                self.put(Bnz(0));
-                self.body(depth - 1);
-                self.land(branch);
+        self.function(target, |builder| {
+            match builder.random.weighted(&[40, 25, 25, 10]) {
+                0 => builder.put(Pop),
+                1 => builder.print(),
+                2 => {
+                    let branch = builder.commands.len();
+                    builder.put(Bnz(0));
+                    builder.body(depth - 1);
+                    builder.land(branch);
+                }
+                _ => {}
             }
-            _ => {}
-        }
-        self.body(depth - 1);
-        if self.random.percent(92) {
-            self.put(Ret);
-        }
-        self.commands[skip] = Push(self.here());
+            builder.body(depth - 1);
+            if builder.random.percent(92) {
+                builder.put(Ret);
+            }
+        });
     }
 
     /// A call that may change a cell depending on another one; back at the caller's label the cell is printed, and
@@ -348,15 +345,12 @@ impl Builder<'_> {
         self.print();
         self.put(Push(1));
         self.print();
-        let skip = self.commands.len();
-        self.put(Push(0));
-        self.put(Jump);
-        self.commands[target] = Push(self.here());
-        let number = number(self.random);
-        for command in [Bnz(4), Push(number), Push(cell), Store, Ret] {
-            self.put(command);
-        }
-        self.commands[skip] = Push(self.here());
+        self.function(target, |builder| {
+            let number = number(builder.random);
+            for command in [Bnz(4), Push(number), Push(cell), Store, Ret] {
+                builder.put(command);
+            }
+        });
     }
 
     /// A call that leaves for the end of the sheet or comes back, depending on a cell; back there, a constant is printed.
@@ -367,16 +361,13 @@ impl Builder<'_> {
             self.put(command);
         }
         self.print();
-        let skip = self.commands.len();
-        self.put(Push(0));
-        self.put(Jump);
-        self.commands[target] = Push(self.here());
-        self.put(Bnz(3));
-        self.ends.push(self.commands.len());
-        for command in [Push(0), Jump, Ret] {
-            self.put(command);
-        }
-        self.commands[skip] = Push(self.here());
+        self.function(target, |builder| {
+            builder.put(Bnz(3));
+            builder.ends.push(builder.commands.len());
+            for command in [Push(0), Jump, Ret] {
+                builder.put(command);
+            }
+        });
     }
 
     /// A jump over a body, in some cases to a place that a cell's number moves.
@@ -412,7 +403,7 @@ fn page_outside(random: &mut Random) -> u8 {
 }
 
 pub fn any_command(random: &mut Random) -> Command {
-    match random.below(12) {
+    match random.below(14) {
         0 => Add,
         1 => Sub,
         2 => Pop,
@@ -424,7 +415,9 @@ pub fn any_command(random: &mut Random) -> Command {
         8 => Bnz(random.between(0, 12) as i16 - 6),
         9 => Call,
         10 => Ret,
-        _ => OutputTo(page(random)),
+        11 => OutputTo(page(random)),
+        12 => calls::any_call(random),
+        _ => RetV,
     }
 }
 
@@ -455,7 +448,8 @@ pub fn commands(random: &mut Random, cells: usize) -> Vec<Command> {
             .map(|_| if random.percent(45) { Push(random.between(0, 9) as i64) } else { any_command(random) })
             .collect(),
         _ => {
-            let pairs = [[Push(1), Pop], [Push(2), Output], [Push(0), Bnz(1)], [Push(3), OutputTo(7)]];
+            let calls = [Push(2), CallN(0, 1)];
+            let pairs = [[Push(1), Pop], [Push(2), Output], [Push(0), Bnz(1)], [Push(3), OutputTo(7)], calls];
             let pair = random.pick(&pairs);
             pair.into_iter().cycle().take(random.between(4090, 4100)).collect()
         }
@@ -476,14 +470,25 @@ pub fn damage(random: &mut Random, bytes: &mut Vec<u8>, near: &[u8]) {
     }
 }
 
-/// Damages the bytes of a sheet: any of them, the page of an OutputTo, or its end, where an OutputTo is cut.
+/// The command with an operand that no sheet may have, if it has such operands.
+fn outside(random: &mut Random, command: Command) -> Option<Command> {
+    match command {
+        OutputTo(_) => Some(OutputTo(page_outside(random))),
+        CallN(arguments, results) => Some(calls::outside(random, arguments, results)),
+        _ => None,
+    }
+}
+
+/// Damages the bytes of a sheet: any of them, an operand that has a range, or its end, where such a command is cut.
 pub fn damage_sheet(random: &mut Random, bytes: &mut Vec<u8>) {
     let mut commands = decode(bytes).unwrap_or_default();
-    let pages: Vec<usize> = (0..commands.len()).filter(|&at| matches!(commands[at], OutputTo(_))).collect();
-    match random.weighted(&[70, 25, 5]) {
-        1 if !pages.is_empty() => {
+    let ranged: Vec<usize> =
+        (0..commands.len()).filter(|&at| matches!(commands[at], OutputTo(_) | CallN(..))).collect();
+    match random.weighted(&[65, 25, 10]) {
+        1 if !ranged.is_empty() => {
             for _ in 0..random.between(1, 2) {
-                commands[random.pick(&pages)] = OutputTo(page_outside(random));
+                let at = random.pick(&ranged);
+                commands[at] = outside(random, commands[at]).unwrap_or(commands[at]);
             }
             *bytes = encode(&commands);
             // A second fault, which may come first.
@@ -491,18 +496,19 @@ pub fn damage_sheet(random: &mut Random, bytes: &mut Vec<u8>) {
                 damage(random, bytes, &COMMAND_BYTES);
             }
         }
-        2 => bytes.push(0x0c),
+        2 => bytes.extend(random.pick(&[&[0x0c][..], &[0x0d], &[0x0d, 1], &[0x0d, 16]])),
         _ => damage(random, bytes, &COMMAND_BYTES),
     }
 }
 
 /// The codes, and what stands next to them and to the last page.
-const COMMAND_BYTES: [u8; 15] = [0, 1, 2, 3, 4, 5, 6, 7, 8, 9, 10, 11, 12, 13, 16];
+const COMMAND_BYTES: [u8; 17] = [0, 1, 2, 3, 4, 5, 6, 7, 8, 9, 10, 11, 12, 13, 14, 15, 16];
 
-/// The bytes of commands. Where they are too many, the first of these may have a page that no sheet may have.
+/// The bytes of commands. Where they are too many, the first of these may have an operand that no sheet may have.
 pub fn encoded(random: &mut Random, mut commands: Vec<Command>) -> Vec<u8> {
-    if commands.len() > COMMANDS && random.percent(30) {
-        commands[COMMANDS] = OutputTo(page_outside(random));
+    if commands.len() > COMMANDS && random.percent(40) {
+        let command = random.pick(&[OutputTo(0), CallN(0, 0)]);
+        commands[COMMANDS] = outside(random, command).unwrap_or(command);
     }
     encode(&commands)
 }
@@ -600,7 +606,7 @@ fn grow_yes_no(random: &mut Random, tree: &mut YesNoTree, depth: usize, inputs: 
     }
 }
 
-/// A table of so many bytes, or a little fewer. Expressions have odd lengths, so that a table never has 512.
+/// A table of so many bytes, or a little fewer. Its 36 expressions have odd lengths, so that it never has 511 or 513.
 fn grown_table(random: &mut Random, length: usize) -> Vec<u8> {
     let mut table = Table::parse(&STANDARD).expect("the standard table is a table");
     let mut bytes = table.bytes();
@@ -608,8 +614,8 @@ fn grown_table(random: &mut Random, length: usize) -> Vec<u8> {
         if bytes.len() >= length {
             break;
         }
-        let index = random.below(11);
-        let code = index as u8 + 1;
+        let index = random.below(RULED.len());
+        let code = RULED[index];
         let inputs = inputs_of(code);
         let rule = &mut table.rules[index];
         match random.below(3) {
@@ -637,10 +643,10 @@ fn change_rule(random: &mut Random, rule: &mut Rule, code: u8) {
 
 fn tree_table(random: &mut Random) -> Table {
     let mut table = Table::parse(&STANDARD).expect("the standard table is a table");
-    let changes = random.pick(&[1, 2, 3, 33]);
+    let changes = random.pick(&[1, 2, 3, 36]);
     for _ in 0..changes {
-        let index = random.below(11);
-        change_rule(random, &mut table.rules[index], index as u8 + 1);
+        let index = random.below(RULED.len());
+        change_rule(random, &mut table.rules[index], RULED[index]);
     }
     table
 }
@@ -662,11 +668,32 @@ fn no_secret_lines() -> Vec<u8> {
     table.bytes()
 }
 
+/// The standard table, but for returns from a hidden place, or of what is hidden, which are not allowed.
+fn no_hidden_returns(random: &mut Random) -> Vec<u8> {
+    let mut table = Table::parse(&STANDARD).expect("the standard table is a table");
+    for rule in &mut table.rules[10..] {
+        let from = if random.percent(50) { LabelTree::Place } else { LabelTree::Input(1) };
+        rule.allowed = YesNoTree::Flows(from, LabelTree::Empty);
+    }
+    table.bytes()
+}
+
+/// A table of the day before, with no rule for RetV.
+fn table_without_retv(random: &mut Random) -> Vec<u8> {
+    let mut table = tree_table(random);
+    if random.percent(50) {
+        table = Table::parse(&STANDARD).expect("the standard table is a table");
+    }
+    table.rules.pop();
+    table.bytes()
+}
+
 /// A rule table's bytes: standard, another, or none.
 pub fn table(random: &mut Random) -> Vec<u8> {
-    match random.weighted(&[45, 37, 10, 3, 2, 2, 1]) {
+    match random.weighted(&[44, 37, 10, 3, 2, 2, 1, 1]) {
         0 => STANDARD.to_vec(),
         6 => no_secret_lines(),
+        7 => table_without_retv(random),
         1 => {
             let bytes = tree_table(random).bytes();
             if bytes.len() > TABLE_BYTES && random.percent(70) {
@@ -686,7 +713,7 @@ pub fn table(random: &mut Random) -> Vec<u8> {
             table.bytes()
         }
         4 => {
-            let length = random.pick(&[301, 511, 511, 513]);
+            let length = random.pick(&[302, 512, 512, 514]);
             grown_table(random, length)
         }
         _ => {
@@ -708,8 +735,8 @@ pub fn rule_memory(random: &mut Random, table: &[u8], first: Option<Command>) ->
     }
     let code = match first {
         Some(command) if random.percent(60) => command.code(),
-        _ if random.percent(20) => random.pick(&[0x04, 0x0c]),
-        _ => random.between(1, 12) as u8,
+        _ if random.percent(30) => random.pick(&[0x04, 0x0c, 0x0a, 0x0d, 0x0e]),
+        _ => random.between(1, 14) as u8,
     };
     let place = if random.percent(60) { 0 } else { label(random) };
     let mut question = Question { code, place, inputs: [None; 3] };
@@ -733,7 +760,11 @@ pub fn rule_memory(random: &mut Random, table: &[u8], first: Option<Command>) ->
         }
         // The same labels after another code: that of a command with as many inputs, or that of none.
         1 if random.percent(10) => {
-            let others = if inputs_of(code) == 1 { &[4, 12, 13][..] } else { &[13] };
+            let others = match inputs_of(code) {
+                1 => &[4, 12, 10, 13, 15][..],
+                2 => &[1, 6, 14, 15],
+                _ => &[15],
+            };
             words[0] = random.pick(others);
         }
         3 => words[5..].fill(-1),
@@ -864,6 +895,11 @@ pub fn start(random: &mut Random, handler_count: impl Fn(&[u8]) -> u64) -> Start
     // Sums that both the table and the limits of numbers may stop.
     if matches!(commands.as_deref(), Ok([Push(_), Load, Push(_), Add | Sub, ..])) && random.percent(50) {
         table = no_secret_sums();
+    }
+    // Returns that both the table and their frame may stop.
+    let calls = |commands: &[Command]| commands.iter().any(|command| matches!(command, CallN(..)));
+    if commands.as_deref().is_ok_and(calls) && random.percent(15) {
+        table = no_hidden_returns(random);
     }
     let first = commands.as_ref().ok().and_then(|commands| commands.first().copied());
     let sets: Vec<Label> = cells.iter().map(|cell| cell.label).collect();

@@ -11,9 +11,9 @@ use crate::backend::{page_from, Backend};
 use crate::generate::clearances::clearances;
 use crate::generate::{cells, commands, fuel, label, number, rule_memory};
 use crate::random::Random;
-use model::engine::{Lent, ALLOWANCE};
+use model::engine::{judged, Lent, ALLOWANCE};
 use model::machine::{Clearances, Kind, Stop};
-use model::rules::{Table, STANDARD};
+use model::rules::{standard, Question, Table, STANDARD};
 use model::sheet::{encode, Command, COMMANDS, PAGES};
 use model::{flows, Atom, Label};
 
@@ -68,6 +68,8 @@ struct Run {
     /// The place's label is inside the set.
     cleared: bool,
     on_plain: bool,
+    /// Values that were returned from a place outside the set to a frame inside it.
+    hidden_returns: u64,
 }
 
 /// Those of one page.
@@ -126,6 +128,7 @@ fn run(
     };
     let bytes = encode(sheet);
     let words = clearances.map(i64::from);
+    let hidden_returns = hidden_returns(&bytes, &lent, &words, fuel, set);
     let on_plain = random.percent(50);
     let answer = if on_plain {
         backend.plain(&bytes, &mut lent, &words, fuel)
@@ -155,7 +158,25 @@ fn run(
         uncleared,
         cleared: flows(place_label as Label, set),
         on_plain,
+        hidden_returns,
     }
+}
+
+/// How many values the model returns in this run from a place outside the set to a frame inside it.
+fn hidden_returns(sheet: &[u8], lent: &Lent, clearances: &[i64], fuel: u64, set: Label) -> u64 {
+    if !sheet.contains(&0x0e) {
+        return 0;
+    }
+    let mut returns = 0;
+    let mut judge = |question: &Question| {
+        let frame = question.inputs[1].filter(|_| question.code == 0x0e);
+        let seen = frame.is_some_and(|frame| flows(frame, set));
+        returns += u64::from(seen && !flows(question.place, set));
+        standard(question)
+    };
+    let run = judged(sheet, &mut lent.clone(), clearances, fuel, &mut judge);
+    run.expect("the start breaks no limit");
+    returns
 }
 
 /// Whether of two lists one is the start of the other.

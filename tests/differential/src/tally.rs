@@ -1,7 +1,9 @@
 //! What was reached, how often: a test that never meets a stop says nothing about it.
 
+pub mod calls;
 pub mod clearances;
 
+use self::calls::{Calls, Carried};
 use self::clearances::Clearances;
 use crate::backend::{fits, Answer};
 use crate::generate::Start;
@@ -22,7 +24,7 @@ const TABLE_FAULTS: [TableFault; 7] = [
 ];
 
 /// The refusals that a start can meet.
-const REFUSALS: [usize; 11] = [1, 2, 3, 4, 5, 6, 7, 8, 9, 12, 13];
+const REFUSALS: [usize; 12] = [1, 2, 3, 4, 5, 6, 7, 8, 9, 12, 13, 14];
 
 const JOB_FAULTS: [JobFault; 5] = [
     JobFault::TooLong,
@@ -65,18 +67,35 @@ const OVERFLOWS: [&str; 7] = [
 const LIMITS: [&str; 4] = ["Add to 2^63-1", "Add to -2^63", "Sub to 2^63-1", "Sub to -2^63"];
 
 /// What may be met in the rule memory, where the labels are those of the command that asks.
-const ROWS: [&str; 3] =
-    ["a row of OutputTo matched", "OutputTo at a row of Output", "Output at a row of OutputTo"];
+const ROWS: [&str; 7] = [
+    "a row of OutputTo matched",
+    "OutputTo at a row of Output",
+    "Output at a row of OutputTo",
+    "a row of CallN matched",
+    "CallN at a row of Call",
+    "Call at a row of CallN",
+    "a row of RetV matched",
+];
+
+/// The codes of the row and of the command that asks, for each of them.
+const ROW_CODES: [[i64; 2]; ROWS.len()] =
+    [[12, 12], [4, 12], [12, 4], [13, 13], [10, 13], [13, 10], [14, 14]];
 
 /// Rule memories at a start; the last is refused for its code alone.
-const STARTS: [&str; 3] =
-    ["start with a row of Output", "start with a row of OutputTo", "refusal 7 by code 13"];
+const STARTS: [&str; 6] = [
+    "start with a row of Output",
+    "start with a row of OutputTo",
+    "start with a row of Call",
+    "start with a row of CallN",
+    "start with a row of RetV",
+    "refusal 7 by code 15",
+];
 
 /// Counts for one engine.
 #[derive(Clone, Default)]
 pub struct Engine {
-    pub stops: [u64; 11],
-    pub refusals: [u64; 14],
+    pub stops: [u64; 12],
+    pub refusals: [u64; 15],
     /// Refusal 8 by its place.
     pub spaces: [u64; 4],
     pub steps: u64,
@@ -95,12 +114,14 @@ pub struct Engine {
     /// Lines by page; on page 0 also those of Output and the end lines.
     pub pages: [u64; PAGES as usize],
     pub clearances: Clearances,
+    pub calls: Calls,
 }
 
 impl Engine {
     /// Counts an answer to a start, which left the memory like this.
     pub fn note(&mut self, answer: &Answer, start: &Start, lent: &Lent) {
         let [refusal, place, stop, steps, pc, label, _, lines, faults, kernel_steps] = answer.words;
+        self.calls.note(answer, start, lent);
         if refusal != 0 {
             self.refusals[refusal as usize] += 1;
             if refusal == 8 {
@@ -164,11 +185,16 @@ impl Engine {
         }
     }
 
-    /// What was met of ends, full space, OutputTo, overflows and clearances, by name.
+    /// What was met of ends, full space, OutputTo, overflows, clearances and calls, by name.
     fn details(&self) -> impl Iterator<Item = (&'static str, u64)> + '_ {
         let names = ENDS.into_iter().chain(FULL).chain(OUTPUT_TO).chain(OVERFLOWS);
         let counts = self.ends.iter().chain(&self.full).chain(&self.output_to).chain(&self.overflows);
-        names.zip(counts.copied()).chain(self.clearances.either())
+        names.zip(counts.copied()).chain(self.clearances.either()).chain(self.calls.either())
+    }
+
+    /// What the tag engine alone can meet of clearances and calls, by name.
+    fn tagged_details(&self) -> impl Iterator<Item = (&'static str, u64)> + '_ {
+        self.clearances.tagged().chain(self.calls.tagged())
     }
 }
 
@@ -188,14 +214,15 @@ pub struct Tally {
     pub plain: Engine,
     pub tagged: Engine,
     /// Commands that were judged on the plain engine, by code.
-    pub commands: [u64; 13],
+    pub commands: [u64; 15],
     /// The same at a place whose label is not empty.
-    pub hidden: [u64; 13],
+    pub hidden: [u64; 15],
+    pub carried: Carried,
     /// An OutputTo of a hidden number at a hidden place, on the plain engine.
     pub hidden_output_to: u64,
     /// OutputTos that were carried out on the plain engine, by page.
     pub output_to: [u64; PAGES as usize],
-    /// Matches of a row of OutputTo; an OutputTo that finds Output's row of its labels, and the other way round.
+    /// Matches of a row; a command that finds the row of its labels of the other command under its rule.
     pub rows: [u64; ROWS.len()],
     pub starts: [u64; STARTS.len()],
     /// Sums that are a limit, on the plain engine.
@@ -217,14 +244,16 @@ pub struct Tally {
     /// Faulty jobs by what is wrong with them.
     pub job_faults: [u64; 5],
     pub job_refusals: u64,
-    /// Those of them by 12.
+    /// Those of them by 12 and by 14.
     pub job_pages_refused: u64,
+    pub job_calls_refused: u64,
     pub short_buffers: u64,
 }
 
 impl Tally {
     pub fn judged(&mut self, question: &Question) {
         self.commands[usize::from(question.code)] += 1;
+        self.carried.judged(question);
         if question.place != 0 {
             self.hidden[usize::from(question.code)] += 1;
             let hidden = question.inputs[0].is_some_and(|label| label != 0);
@@ -242,9 +271,10 @@ impl Tally {
     /// The rule memory of a start of the tag engine, and its refusal or 0.
     pub fn started(&mut self, memory: &[i64], table: &Table, refusal: u64) {
         let code = memory.first().copied().unwrap_or(0);
-        let as_output_to = [&[12], &memory[memory.len().min(1)..]].concat();
-        let by_code = refusal == 7 && code == 13 && table.accepts(&as_output_to);
-        let met = [refusal == 0 && code == 4, refusal == 0 && code == 12, by_code];
+        let with = |code| [&[code], &memory[memory.len().min(1)..]].concat();
+        let by_code = refusal == 7 && code == 15 && (1..=14).any(|code| table.accepts(&with(code)));
+        let started = |of| refusal == 0 && code == of;
+        let met = [started(4), started(12), started(10), started(13), started(14), by_code];
         for (count, met) in self.starts.iter_mut().zip(met) {
             *count += u64::from(met);
         }
@@ -254,7 +284,7 @@ impl Tally {
     pub fn consulted(&mut self, memory: &RuleMemory, question: &Question) {
         let words = question.words();
         if memory[1..5] == words[1..] {
-            let met = [[12, 12], [4, 12], [12, 4]].map(|codes| codes == [memory[0], words[0]]);
+            let met = ROW_CODES.map(|codes| codes == [memory[0], words[0]]);
             for (count, met) in self.rows.iter_mut().zip(met) {
                 *count += u64::from(met);
             }
@@ -312,8 +342,16 @@ impl Tally {
         }
         want("tagged: stop 6 at a sum outside 64 bits".into(), self.tagged.denied_overflows);
         want("tagged: stop 6 at an OutputTo".into(), self.tagged.denied_output_to);
-        for (what, count) in self.tagged.clearances.tagged() {
+        for (what, count) in self.tagged.tagged_details() {
             want(format!("tagged: {what}"), count);
+        }
+        for (what, count) in self.carried.returns() {
+            want(what.into(), count);
+        }
+        for (arguments, counts) in self.carried.calls.iter().enumerate() {
+            for (results, &count) in counts.iter().enumerate() {
+                want(format!("CallN {arguments} {results}"), count);
+            }
         }
         for page in 0..PAGES.into() {
             want(format!("OutputTo {page}"), self.output_to[page]);
@@ -329,7 +367,7 @@ impl Tally {
         for (what, &count) in LIMITS.iter().zip(&self.limits) {
             want((*what).into(), count);
         }
-        for code in 0x01..=0x0c {
+        for code in 0x01..=0x0e {
             want(format!("command {code:02x}"), self.commands[code]);
             want(format!("command {code:02x} at a hidden place"), self.hidden[code]);
         }
@@ -348,6 +386,7 @@ impl Tally {
         want("a page with lines of other pages than 0".into(), self.other_pages);
         want("a refused job".into(), self.job_refusals);
         want("a job refused by 12".into(), self.job_pages_refused);
+        want("a job refused by 14".into(), self.job_calls_refused);
         want("a short page buffer".into(), self.short_buffers);
         missing
     }
@@ -363,9 +402,7 @@ impl Tally {
         }
         row("stop 6 before 9".into(), self.plain.denied_overflows, self.tagged.denied_overflows);
         row("stop 6, OutputTo".into(), self.plain.denied_output_to, self.tagged.denied_output_to);
-        for ((what, plain), (_, tagged)) in
-            self.plain.clearances.tagged().zip(self.tagged.clearances.tagged())
-        {
+        for ((what, plain), (_, tagged)) in self.plain.tagged_details().zip(self.tagged.tagged_details()) {
             row(what.into(), plain, tagged);
         }
         for number in REFUSALS {
@@ -380,13 +417,17 @@ impl Tally {
         row("faults".into(), self.plain.faults, self.tagged.faults);
         row("kernel steps".into(), self.plain.kernel_steps, self.tagged.kernel_steps);
         println!("{:>26} {:>12} {:>12}", "command", "asked", "hidden place");
-        for code in 0x01..=0x0c {
+        for code in 0x01..=0x0e {
             row(format!("{code:02x}"), self.commands[code], self.hidden[code]);
         }
         println!(
             "OutputTo carried out, by page: {:?}; hidden number and place: {}",
             self.output_to, self.hidden_output_to
         );
+        println!("CallN carried out, by arguments and results: {:?}", self.carried.calls);
+        for (what, count) in self.carried.returns() {
+            println!("{what}: {count}");
+        }
         let closed = [&self.plain, &self.tagged].map(|engine| engine.clearances.pages);
         println!("stop 10, by page: plain {:?}, tagged {:?}", closed[0], closed[1]);
         print!("rule memory:");
@@ -412,13 +453,14 @@ impl Tally {
             print!(" {fault:?} {count}");
         }
         print!(
-            "\njobs: pages {} of {} bytes, {} with an end line, {} with other pages than 0, refused {}, by 12 {}",
+            "\njobs: pages {} of {} bytes, {} with an end line, {} with other pages than 0, refused {}, by 12 {}, by 14 {}",
             self.pages,
             self.page_bytes,
             self.page_ends,
             self.other_pages,
             self.job_refusals,
-            self.job_pages_refused
+            self.job_pages_refused,
+            self.job_calls_refused
         );
         for (fault, count) in JOB_FAULTS.iter().zip(&self.job_faults) {
             print!(", {fault:?} {count}");

@@ -1,6 +1,6 @@
 //! The tests tried: the model against itself differs nowhere, and every deliberate fault is found.
 
-use differential::backend::faults::{of_clearances, Fault, FAULTS};
+use differential::backend::faults::{of_calls, of_clearances, Fault, FAULTS};
 use differential::backend::faulty::Faulty;
 use differential::backend::{Answer, Backend, Itself};
 use differential::compare::compare_case;
@@ -70,6 +70,13 @@ fn every_fault_of_clearances_is_found_in_the_tag_engine() {
     }
 }
 
+#[test]
+fn every_fault_of_calls_is_found_in_the_tag_engine() {
+    for &fault in of_calls() {
+        find_case(fault, &InTags(Faulty(fault)), 10_000);
+    }
+}
+
 /// The first pair of runs of which this is wrong.
 fn find_pair(fault: Fault, wrong: &str) {
     let mut pairs = Pairs::default();
@@ -89,6 +96,11 @@ fn every_leak_is_found() {
         Fault::EndWhereSpent,
         Fault::PageKept,
         Fault::EndOnLastPage,
+        // Hidden returns: without stop 11 the stack tells which way was taken.
+        Fault::RetOnResult,
+        Fault::RetVOnNone,
+        Fault::RetVWithoutPlace,
+        Fault::RetVUnderRet,
     ] {
         find_pair(fault, " differ");
     }

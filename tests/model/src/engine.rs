@@ -1,9 +1,9 @@
 //! The two engines over lent words: what is refused, what is run, what the words hold afterwards (document 01, "Tag
 //! engine", "Refused before the first step"; document 02, U1 and U4, for the third and fourth run of the output space,
-//! and U5, for the clearances).
+//! U5, for the clearances, and U6, for the kinds of frames).
 
 use crate::kernel::{self, Breach, Ending};
-use crate::machine::{Clearances, Entry, Judge, Kind, Line, Machine, Stop, STACK};
+use crate::machine::{Clearances, Judge, Kind, Line, Machine, Stop, STACK};
 use crate::rules::{standard, Labels, Question, RuleMemory, Table};
 use crate::sheet::{decode, Command, PAGES};
 use crate::{Atom, Label, Refusal};
@@ -160,13 +160,7 @@ fn run(
 ) -> Report {
     let (stop, steps) = machine.run(commands, fuel, judge);
     lay(&mut lent.program, commands.iter().map(|command| command.words()));
-    lay(
-        &mut lent.stack,
-        machine.stack.entries.iter().map(|entry| match entry {
-            Entry::Value(atom) => [0, atom.number, atom.label.into()],
-            Entry::Frame(atom) => [1, atom.number, atom.label.into()],
-        }),
-    );
+    lay(&mut lent.stack, machine.stack.entries.iter().map(|entry| entry.words()));
     lay(&mut lent.values, machine.cells.iter().map(|cell| [cell.number]));
     lay(&mut lent.labels, machine.cells.iter().map(|cell| [cell.label.into()]));
     let lines = &machine.pages.lines;

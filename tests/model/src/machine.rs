@@ -1,5 +1,6 @@
 //! The machine: its state, its step and its runs (document 01, "Atoms, cells, stack", "Commands", "Stops"; document 02,
-//! U1, for the end line, U2, for sums outside 64 bits, U4, for pages, and U5, for their clearances).
+//! U1, for the end line, U2, for sums outside 64 bits, U4, for pages, U5, for their clearances, and U6, for calls that
+//! bring something back).
 
 use crate::rules::{Labels, Question};
 use crate::sheet::{Command, PAGES};
@@ -11,7 +12,20 @@ pub const STACK: usize = 256;
 #[derive(Clone, Copy, Debug, PartialEq, Eq)]
 pub enum Entry {
     Value(Atom),
-    Frame(Atom),
+    /// A place to return to, and how many results are due there: 0 or 1.
+    Frame(Atom, u8),
+}
+
+impl Entry {
+    /// The three words of the stack space: kind, number, label. The kind is 0 of a value, 1 of a frame with no result
+    /// due, 2 of one with a result due.
+    pub fn words(self) -> [i64; 3] {
+        let (kind, atom) = match self {
+            Entry::Value(atom) => (0, atom),
+            Entry::Frame(atom, results) => (1 + i64::from(results), atom),
+        };
+        [kind, atom.number, atom.label.into()]
+    }
 }
 
 #[derive(Clone, Copy, Debug, PartialEq, Eq, PartialOrd, Ord)]
@@ -29,6 +43,8 @@ pub enum Stop {
     Overflow = 9,
     /// Tested after 6 and before 9, 7 and 8; at the sheet's end before 8, both in place of 0.
     NotCleared = 10,
+    /// The results due do not match the return. Tested right after 4.
+    ResultsDiffer = 11,
 }
 
 /// What a line says: a number that an Output or OutputTo dropped, or that the run came to the sheet's end.
@@ -55,7 +71,7 @@ pub struct Stack {
 }
 
 impl Stack {
-    fn push(&mut self, entry: Entry) {
+    pub fn push(&mut self, entry: Entry) {
         if self.depth < self.entries.len() {
             self.entries[self.depth] = entry;
         } else {
@@ -64,33 +80,48 @@ impl Stack {
         self.depth += 1;
     }
 
-    fn pop(&mut self) -> Option<Entry> {
+    pub fn pop(&mut self) -> Option<Entry> {
         self.depth = self.depth.checked_sub(1)?;
         Some(self.entries[self.depth])
     }
 
+    /// The entry `below` entries under the top, if there is one.
+    pub fn entry(&self, below: usize) -> Option<Entry> {
+        self.depth.checked_sub(1 + below).map(|index| self.entries[index])
+    }
+
     /// The atom `below` entries under the top, where that is a value.
     fn value(&self, below: usize) -> Result<Atom, Stop> {
-        let index = self.depth.checked_sub(1 + below);
-        match index.map(|index| self.entries[index]) {
+        match self.entry(below) {
             Some(Entry::Value(atom)) => Ok(atom),
             _ => Err(Stop::ValueMissing),
         }
     }
 
-    fn frame(&self) -> Result<Atom, Stop> {
-        let index = self.depth.checked_sub(1);
-        match index.map(|index| self.entries[index]) {
-            Some(Entry::Frame(atom)) => Ok(atom),
+    /// The place of the frame `below` entries under the top, where there is a frame with so many results due.
+    fn frame(&self, below: usize, results: u8) -> Result<Atom, Stop> {
+        match self.entry(below) {
+            Some(Entry::Frame(atom, due)) if due == results => Ok(atom),
+            Some(Entry::Frame(..)) => Err(Stop::ResultsDiffer),
             _ => Err(Stop::FrameMissing),
         }
     }
 
-    fn pop_atom(&mut self) -> Atom {
-        match self.pop() {
-            Some(Entry::Value(atom) | Entry::Frame(atom)) => atom,
-            None => panic!("the step tested that an entry is there"),
+    /// Drops a call's target and puts a frame under the arguments, which stay above it in their order.
+    pub fn call(&mut self, arguments: usize, frame: Entry) {
+        self.pop();
+        let above: Vec<Entry> = (0..arguments).filter_map(|_| self.pop()).collect();
+        self.push(frame);
+        for argument in above.into_iter().rev() {
+            self.push(argument);
         }
+    }
+
+    /// Drops a value and the frame under it, and puts what is brought back on top. The old top entry keeps its words.
+    pub fn bring_back(&mut self, result: Atom) {
+        self.pop();
+        self.pop();
+        self.push(Entry::Value(result));
     }
 }
 
@@ -143,6 +174,11 @@ pub fn whole(command: Command, top: i64, under: i64) -> i128 {
 pub trait Judge {
     fn judge(&mut self, question: &Question) -> Option<Labels>;
 
+    /// The atoms that the command works on, or what is missing. A method, so that a test can have it wrong.
+    fn inputs(&mut self, machine: &Machine, command: Command) -> Result<Vec<Atom>, Stop> {
+        machine.inputs(command)
+    }
+
     /// The number that an allowed Add or Sub gives, unless it is outside 64 bits. A method, so that a test can count
     /// these, or have them wrong.
     fn combine(&mut self, command: Command, top: i64, under: i64) -> Option<i64> {
@@ -152,6 +188,16 @@ pub trait Judge {
     /// Puts a line out or stops it, the end line too. A method, so that a test can have it wrong.
     fn write(&mut self, pages: &mut Pages, line: Line) -> Result<(), Stop> {
         pages.write(line)
+    }
+
+    /// Carries out an allowed call on the stack. A method, so that a test can count these, or have them wrong.
+    fn call(&mut self, stack: &mut Stack, _command: Command, arguments: usize, frame: Entry) {
+        stack.call(arguments, frame);
+    }
+
+    /// Carries out an allowed RetV on the stack. A method for the same reason.
+    fn bring_back(&mut self, stack: &mut Stack, result: Atom) {
+        stack.bring_back(result);
     }
 
     /// Told of every line that a command writes, for tests that count or follow them.
@@ -185,7 +231,7 @@ impl Machine {
     }
 
     /// The atoms that the command works on, in the order of its inputs.
-    fn inputs(&self, command: Command) -> Result<Vec<Atom>, Stop> {
+    pub fn inputs(&self, command: Command) -> Result<Vec<Atom>, Stop> {
         use Command::*;
         Ok(match command {
             Push(_) => vec![],
@@ -200,19 +246,23 @@ impl Machine {
                 let number = self.stack.value(1)?;
                 vec![address, number, self.cells[self.cell(address.number)?]]
             }
-            Call => {
+            Call | CallN(..) => {
+                let (arguments, _) = command.call().expect("it is a call");
                 let target = self.stack.value(0)?;
-                self.stack.value(1)?;
+                for argument in 1..=arguments {
+                    self.stack.value(argument)?;
+                }
                 vec![target]
             }
-            Ret => vec![self.stack.frame()?],
+            Ret => vec![self.stack.frame(0, 0)?],
+            RetV => vec![self.stack.value(0)?, self.stack.frame(1, 1)?],
         })
     }
 
     /// Carries out one command, or stops before it.
     pub fn step(&mut self, command: Command, judge: &mut impl Judge) -> Result<(), Stop> {
         use Command::*;
-        let atoms = self.inputs(command)?;
+        let atoms = judge.inputs(self, command)?;
         let mut inputs = [None; 3];
         for (input, atom) in inputs.iter_mut().zip(&atoms) {
             *input = Some(atom.label);
@@ -255,20 +305,26 @@ impl Machine {
                 let index = self.cell(atoms[0].number)?;
                 self.cells[index] = result(atoms[1].number);
             }
-            Jump => next = self.stack.pop_atom().number,
+            Jump | Ret => {
+                self.stack.pop();
+                next = atoms[0].number;
+            }
             Bnz(distance) => {
-                if self.stack.pop_atom().number != 0 {
+                self.stack.pop();
+                if atoms[0].number != 0 {
                     next = self.place + i64::from(distance);
                 }
             }
-            Call => {
-                let target = self.stack.pop_atom();
-                let argument = self.stack.pop_atom();
-                self.stack.push(Entry::Frame(result(self.place + 1)));
-                self.stack.push(Entry::Value(argument));
-                next = target.number;
+            Call | CallN(..) => {
+                let (arguments, results) = command.call().expect("it is a call");
+                let frame = Entry::Frame(result(self.place + 1), results);
+                judge.call(&mut self.stack, command, arguments, frame);
+                next = atoms[0].number;
             }
-            Ret => next = self.stack.pop_atom().number,
+            RetV => {
+                judge.bring_back(&mut self.stack, result(atoms[0].number));
+                next = atoms[1].number;
+            }
         }
         self.place = next;
         self.place_label = labels.place;

@@ -1,7 +1,7 @@
 //! Rules: the standard ones, rule tables as trees, and the rule memory's rows (document 01, "Rules", refusals 6 and 7;
-//! document 02, U4, for OutputTo, which is under Output's rule).
+//! document 02, U4, for OutputTo, which is under Output's rule, and U6, for CallN, which is under Call's, and RetV).
 
-use crate::sheet::inputs_of;
+use crate::sheet::{inputs_of, EACH};
 use crate::{flows, Label, Refusal};
 
 /// The most bytes a rule table may have.
@@ -37,7 +37,7 @@ impl Question {
     /// The question whose words these are, if the command supplies just these inputs and all labels are in range.
     pub fn of_words(words: &[i64]) -> Option<Question> {
         let code = u8::try_from(words[0]).ok()?;
-        if !(0x01..=0x0c).contains(&code) {
+        if !EACH.iter().any(|command| command.code() == code) {
             return None;
         }
         let mut inputs = [None; 3];
@@ -56,7 +56,7 @@ impl Question {
     }
 }
 
-/// The standard rules, as document 01 lists them; OutputTo is under Output's.
+/// The standard rules, as document 01 lists them; OutputTo is under Output's, CallN under Call's.
 pub fn standard(question: &Question) -> Option<Labels> {
     let place = question.place;
     let input = |index| question.input(index);
@@ -68,16 +68,20 @@ pub fn standard(question: &Question) -> Option<Labels> {
         0x06 => (true, place, input(1) | input(2)),
         0x07 => (flows(input(1) | place, input(3)), place, input(1) | input(2) | place),
         0x08 | 0x09 => (true, input(1) | place, 0),
-        0x0a => (true, input(1) | place, place),
+        0x0a | 0x0d => (true, input(1) | place, place),
         0x0b => (true, input(1), 0),
+        0x0e => (true, input(2), input(1) | place),
         code => panic!("code {code} is no command"),
     };
     allowed.then_some(Labels { place: new_place, result })
 }
 
-/// The standard table's bytes: for codes 01 to 0b allowed, place, result.
+/// The codes of the commands for which a table has a rule, in its order.
+pub const RULED: [u8; 12] = [0x01, 0x02, 0x03, 0x04, 0x05, 0x06, 0x07, 0x08, 0x09, 0x0a, 0x0b, 0x0e];
+
+/// The standard table's bytes: for these codes allowed, place, result.
 #[rustfmt::skip]
-pub const STANDARD: [u8; 55] = [
+pub const STANDARD: [u8; 60] = [
     0x17, 0x11, 0x15, 0x12, 0x13,
     0x17, 0x11, 0x15, 0x12, 0x13,
     0x17, 0x11, 0x10,
@@ -89,6 +93,7 @@ pub const STANDARD: [u8; 55] = [
     0x17, 0x15, 0x12, 0x11, 0x10,
     0x17, 0x15, 0x12, 0x11, 0x11,
     0x17, 0x12, 0x10,
+    0x17, 0x13, 0x15, 0x12, 0x11,
 ];
 
 #[derive(Clone, Debug, PartialEq, Eq)]
@@ -114,7 +119,7 @@ pub struct Rule {
     pub result: LabelTree,
 }
 
-/// A rule for each of the codes 01 to 0b.
+/// A rule for each of the codes [`RULED`].
 #[derive(Clone, Debug, PartialEq, Eq)]
 pub struct Table {
     pub rules: Vec<Rule>,
@@ -293,7 +298,7 @@ impl Table {
         }
         let mut reader = Reader { bytes, at: 0, inputs: 0 };
         let mut rules = Vec::new();
-        for code in 0x01..=0x0b {
+        for code in RULED {
             reader.inputs = inputs_of(code);
             let allowed = reader.yes_no(1)?;
             let place = reader.label(1)?;
@@ -325,10 +330,16 @@ impl Table {
         out
     }
 
-    /// The rule of the command of this code: its own, or Output's for OutputTo, of which the table has none.
+    /// The rule of the command of this code: its own, or, as the table has none, Output's for OutputTo and Call's for
+    /// CallN.
     pub fn rule(&self, code: u8) -> &Rule {
-        let own = if code == 0x0c { 0x04 } else { code };
-        &self.rules[usize::from(own) - 1]
+        let ruled = match code {
+            0x0c => 0x04,
+            0x0d => 0x0a,
+            own => own,
+        };
+        let index = RULED.iter().position(|&code| code == ruled);
+        &self.rules[index.expect("the code is a command's")]
     }
 
     /// What the table says of a command.

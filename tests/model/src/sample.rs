@@ -2,6 +2,7 @@
 
 use crate::engine::Handler;
 use crate::rules::{LabelTree, Table, YesNoTree};
+use crate::sheet::{Command, EACH};
 
 const SUB: i64 = 0x02;
 const PUSH: i64 = 0x05;
@@ -23,7 +24,7 @@ impl Sample {
     /// Tests the code against each command's in turn; a rule's tests leave 0 for yes.
     pub fn of(table: &Table) -> Sample {
         let mut out = Sample::default();
-        for code in 0x01..=0x0c {
+        for code in EACH.map(Command::code) {
             let rule = table.rule(code);
             out.put(PUSH, code.into());
             out.load(0);

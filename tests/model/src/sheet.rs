@@ -1,5 +1,5 @@
 //! Sheets: commands and their bytes (document 01, "Commands" and refusals 1 to 3; document 02, U4, for OutputTo and
-//! refusal 12).
+//! refusal 12, and U6, for CallN, RetV and refusal 14).
 
 use crate::Refusal;
 
@@ -7,6 +7,10 @@ use crate::Refusal;
 pub const COMMANDS: usize = 4096;
 /// The pages of a run: their numbers are 0 to 15.
 pub const PAGES: u8 = 16;
+/// The most arguments of a call.
+pub const ARGUMENTS: u8 = 15;
+/// The most results of a call.
+pub const RESULTS: u8 = 1;
 
 #[derive(Clone, Copy, Debug, PartialEq, Eq)]
 pub enum Command {
@@ -23,13 +27,17 @@ pub enum Command {
     Ret,
     /// Its operand is a page. A sheet that has one over 15 is refused.
     OutputTo(u8),
+    /// Its operands are how many arguments there are and how many results are due. A sheet that has one over 15 or over
+    /// 1 is refused.
+    CallN(u8, u8),
+    RetV,
 }
 
 use Command::*;
 
-/// Each command once, with operand 0 where it has one.
-pub const EACH: [Command; 12] =
-    [Add, Sub, Pop, Output, Push(0), Load, Store, Jump, Bnz(0), Call, Ret, OutputTo(0)];
+/// Each command once, with operands 0 where it has any.
+pub const EACH: [Command; 14] =
+    [Add, Sub, Pop, Output, Push(0), Load, Store, Jump, Bnz(0), Call, Ret, OutputTo(0), CallN(0, 0), RetV];
 
 impl Command {
     /// The command's name, as documents 01 and 02 spell it.
@@ -47,6 +55,8 @@ impl Command {
             Call => "Call",
             Ret => "Ret",
             OutputTo(_) => "OutputTo",
+            CallN(..) => "CallN",
+            RetV => "RetV",
         }
     }
 
@@ -65,22 +75,40 @@ impl Command {
             Call => 0x0a,
             Ret => 0x0b,
             OutputTo(_) => 0x0c,
+            CallN(..) => 0x0d,
+            RetV => 0x0e,
         }
     }
 
-    /// The command's operand, if it has one.
-    pub fn operand(self) -> Option<i64> {
+    /// The command's operands, in their order on sheets.
+    pub fn operands(self) -> Vec<i64> {
         match self {
-            Push(number) => Some(number),
-            Bnz(distance) => Some(distance.into()),
-            OutputTo(page) => Some(page.into()),
+            Push(number) => vec![number],
+            Bnz(distance) => vec![distance.into()],
+            OutputTo(page) => vec![page.into()],
+            CallN(arguments, results) => vec![arguments.into(), results.into()],
+            _ => vec![],
+        }
+    }
+
+    /// The two words of the command space: code, and operand or 0; of two operands 16 times the first plus the second.
+    pub fn words(self) -> [i64; 2] {
+        let operand = match self.operands()[..] {
+            [] => 0,
+            [operand] => operand,
+            [arguments, results] => 16 * arguments + results,
+            _ => panic!("no command has three operands"),
+        };
+        [self.code().into(), operand]
+    }
+
+    /// Of a call, how many arguments it has and how many results are due; an old Call has one argument and no result.
+    pub fn call(self) -> Option<(usize, u8)> {
+        match self {
+            Call => Some((1, 0)),
+            CallN(arguments, results) => Some((arguments.into(), results)),
             _ => None,
         }
-    }
-
-    /// The two words of the command space: code, operand or 0.
-    pub fn words(self) -> [i64; 2] {
-        [self.code().into(), self.operand().unwrap_or(0)]
     }
 }
 
@@ -88,8 +116,8 @@ impl Command {
 pub fn inputs_of(code: u8) -> usize {
     match code {
         0x05 => 0,
-        0x03 | 0x04 | 0x08 | 0x09 | 0x0a | 0x0b | 0x0c => 1,
-        0x01 | 0x02 | 0x06 => 2,
+        0x03 | 0x04 | 0x08 | 0x09 | 0x0a | 0x0b | 0x0c | 0x0d => 1,
+        0x01 | 0x02 | 0x06 | 0x0e => 2,
         0x07 => 3,
         _ => panic!("code {code} is no command"),
     }
@@ -123,10 +151,15 @@ pub fn decode(sheet: &[u8]) -> Result<Vec<Command>, Refusal> {
             0x0a => (Some(Call), 0),
             0x0b => (Some(Ret), 0),
             0x0c => (rest.first().map(|&page| OutputTo(page)), 1),
+            0x0d => (rest.first_chunk().map(|&[arguments, results]| CallN(arguments, results)), 2),
+            0x0e => (Some(RetV), 0),
             _ => return Err(Refusal::new(2, offset)),
         };
         match command.ok_or(Refusal::new(3, offset))? {
             OutputTo(PAGES..) => return Err(Refusal::new(12, offset)),
+            CallN(arguments, results) if arguments > ARGUMENTS || results > RESULTS => {
+                return Err(Refusal::new(14, offset));
+            }
             command => commands.push(command),
         }
         offset += 1 + width;
@@ -143,6 +176,7 @@ pub fn encode(commands: &[Command]) -> Vec<u8> {
             Push(number) => bytes.extend(number.to_le_bytes()),
             Bnz(distance) => bytes.extend(distance.to_le_bytes()),
             OutputTo(page) => bytes.push(*page),
+            CallN(arguments, results) => bytes.extend([arguments, results]),
             _ => {}
         }
     }

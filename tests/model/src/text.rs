@@ -1,6 +1,6 @@
-//! Sheets in text: reading and listing (document 02, U3; U4 for OutputTo).
+//! Sheets in text: reading and listing (document 02, U3; U4 for OutputTo, U6 for CallN and RetV).
 
-use crate::sheet::{decode, encode, Command, Command::*, COMMANDS, EACH, PAGES};
+use crate::sheet::{decode, encode, Command, Command::*, ARGUMENTS, COMMANDS, EACH, PAGES, RESULTS};
 use crate::Refusal;
 
 /// What may be wrong with a line.
@@ -38,6 +38,14 @@ fn is_operand(word: &str) -> bool {
     !digits.is_empty() && digits.bytes().all(|byte| byte.is_ascii_digit())
 }
 
+/// A well-written operand that must not be below 0 or above this.
+fn up_to(most: u8, word: &str) -> Result<u8, LineFault> {
+    match word.parse::<i64>() {
+        Ok(number) if (0..=most.into()).contains(&number) => Ok(number as u8),
+        _ => Err(LineFault::Outside),
+    }
+}
+
 /// The command of a line: its name, then each operand after one space.
 pub fn command(line: &[u8]) -> Result<Command, LineFault> {
     // What stands in for bytes that are no UTF-8 is in no name and no operand either.
@@ -46,7 +54,7 @@ pub fn command(line: &[u8]) -> Result<Command, LineFault> {
     let name = words.next().unwrap_or_default();
     let operands: Vec<&str> = words.collect();
     let command = EACH.into_iter().find(|command| command.name() == name).ok_or(LineFault::UnknownName)?;
-    if operands.len() != usize::from(command.operand().is_some()) {
+    if operands.len() != command.operands().len() {
         return Err(LineFault::OperandCount);
     }
     if !operands.iter().all(|word| is_operand(word)) {
@@ -56,10 +64,8 @@ pub fn command(line: &[u8]) -> Result<Command, LineFault> {
     match command {
         Push(_) => operands[0].parse().map(Push).map_err(|_| LineFault::Outside),
         Bnz(_) => operands[0].parse().map(Bnz).map_err(|_| LineFault::Outside),
-        OutputTo(_) => match operands[0].parse::<i64>() {
-            Ok(page) if (0..PAGES.into()).contains(&page) => Ok(OutputTo(page as u8)),
-            _ => Err(LineFault::Outside),
-        },
+        OutputTo(_) => up_to(PAGES - 1, operands[0]).map(OutputTo),
+        CallN(..) => Ok(CallN(up_to(ARGUMENTS, operands[0])?, up_to(RESULTS, operands[1])?)),
         _ => Ok(command),
     }
 }
@@ -78,9 +84,9 @@ pub fn read(text: &[u8]) -> Result<Vec<Command>, (LineFault, usize)> {
 
 /// The one normal text of a list of commands.
 pub fn normal(commands: &[Command]) -> String {
-    let line = |command: &Command| match command.operand() {
-        Some(operand) => format!("{} {operand}\n", command.name()),
-        None => format!("{}\n", command.name()),
+    let line = |command: &Command| {
+        let operands = command.operands().into_iter().map(|operand| format!(" {operand}"));
+        command.name().to_owned() + &operands.collect::<String>() + "\n"
     };
     commands.iter().map(line).collect()
 }

@@ -1,100 +1,19 @@
 //! Document 01's readings, starred and unstarred, as document 02's U1, U2, U4 and U5 leave them, and these changes'
-//! own cases, on both engines.
+//! own cases, on both engines. `calls.rs` has those of U6.
 
+mod common;
+
+use common::*;
 use model::engine::{plain, tagged, Handler, Lent, Report, CLEARED_FOR_ALL};
-use model::machine::{Kind, Line, Stop};
+use model::machine::{Line, Stop};
 use model::page::{page, LINES};
 use model::rules::{standard, LabelTree, Question, Table, YesNoTree, STANDARD};
 use model::sample::Sample;
 use model::sheet::{decode, encode, Command, Command::*};
 use model::{flows, Atom, Label, Refusal};
 
-const CELLS: [Atom; 2] = [Atom { number: 7, label: 0 }, Atom { number: 5, label: 1 }];
-
-/// A run on both engines, which must agree: the report, the lines and the rule memory.
-struct Run {
-    report: Report,
-    lines: Vec<Line>,
-    lent: Lent,
-}
-
-fn line(number: i64, label: Label) -> Line {
-    line_on(0, number, label)
-}
-
-fn line_on(page: u8, number: i64, label: Label) -> Line {
-    Line { page, kind: Kind::Number, number, label }
-}
-
-fn end(label: Label) -> Line {
-    Line { page: 0, kind: Kind::End, number: 0, label }
-}
-
-fn run_with(sheet: &[Command], cells: &[Atom], fuel: u64, lines: usize) -> Result<Run, Refusal> {
-    run_cleared(sheet, cells, &CLEARED_FOR_ALL, fuel, lines)
-}
-
-fn run_cleared(
-    sheet: &[Command],
-    cells: &[Atom],
-    clearances: &[i64],
-    fuel: u64,
-    lines: usize,
-) -> Result<Run, Refusal> {
-    let sheet = encode(sheet);
-    let mut by_plain = Lent::roomy(cells, lines);
-    let plain = plain(&sheet, &mut by_plain, clearances, fuel);
-    let sample = Sample::of(&Table::parse(&STANDARD).unwrap());
-    let mut lent = Lent::roomy(cells, lines);
-    let tagged = tagged(&sheet, &STANDARD, sample.handler(), &mut lent, clearances, fuel);
-    assert_eq!(tagged.wrong, None);
-    let report = match (plain, tagged.answer) {
-        (Ok(plain), Ok(tagged)) => {
-            assert_eq!(Report { faults: 0, kernel_steps: 0, ..tagged }, plain);
-            assert_eq!(
-                Lent { rule_memory: vec![0; 7], handler: vec![0; lent.handler.len()], ..lent.clone() },
-                by_plain
-            );
-            tagged
-        }
-        (plain, tagged) => {
-            assert_eq!(plain, tagged);
-            return Err(tagged.unwrap_err());
-        }
-    };
-    Ok(Run { report, lines: lent.lines(&report), lent })
-}
-
-fn run(sheet: &[Command]) -> Run {
-    run_with(sheet, &CELLS, 1000, 100).unwrap()
-}
-
-fn stop_of(sheet: &[Command], fuel: u64) -> Stop {
-    run_with(sheet, &CELLS, fuel, 100).unwrap().report.stop
-}
-
-fn stop_and_lines(sheet: &[Command], fuel: u64) -> (Stop, Vec<Line>) {
-    let run = run_with(sheet, &CELLS, fuel, 100).unwrap();
-    (run.report.stop, run.lines)
-}
-
 fn r1() -> Vec<Command> {
     vec![Push(1), Load, Push(0), Load, Add, Output, Push(0), Load, Output]
-}
-
-/// R1's job for a reader.
-fn job(reader: u32, sheet: &[Command]) -> Vec<u8> {
-    let mut job = Vec::new();
-    for cell in CELLS {
-        job.push(0x40);
-        job.extend(cell.number.to_le_bytes());
-        job.extend(cell.label.to_le_bytes());
-    }
-    job.push(0x42);
-    job.extend(reader.to_le_bytes());
-    job.push(0x43);
-    job.extend(encode(sheet));
-    job
 }
 
 #[test]
@@ -359,7 +278,7 @@ fn output_to_has_a_row_of_its_own() {
             assert_eq!(start_with_rule_memory(wrong), Err(Refusal::new(7, 0)));
         }
     }
-    for code in [13, 14, 268, -4] {
+    for code in [15, 16, 268, -4] {
         assert_eq!(start_with_rule_memory([code, 1, 2, -1, -1, 1, 3]), Err(Refusal::new(7, 0)));
     }
 }
@@ -389,16 +308,9 @@ fn output_to_is_under_outputs_rule() {
     );
     assert_eq!(run(1, Output), (Stop::NotAllowed, vec![], vec![4, 0, 1, -1, -1, -1, -1]));
     assert_eq!(run(1, OutputTo(9)), (Stop::NotAllowed, vec![], vec![12, 0, 1, -1, -1, -1, -1]));
-    // The table has rules for 01 to 0b, and none for 0c.
+    // The table has no rule for 0c of its own.
     let longer = [&STANDARD[..], &STANDARD[13..18]].concat();
-    assert_eq!(Table::parse(&longer).err(), Some(Refusal::new(6, 55)));
-}
-
-fn start_with_rule_memory(memory: [i64; 7]) -> Result<Report, Refusal> {
-    let sample = Sample::of(&Table::parse(&STANDARD).unwrap());
-    let mut lent = Lent::roomy(&CELLS, 10);
-    lent.rule_memory = memory.to_vec();
-    tagged(&[], &STANDARD, sample.handler(), &mut lent, &CLEARED_FOR_ALL, 10).answer
+    assert_eq!(Table::parse(&longer).err(), Some(Refusal::new(6, 60)));
 }
 
 /// Every page for all owners, but this one for these.
@@ -625,6 +537,7 @@ fn refusals_before_and_after_13() {
         assert_eq!(refused(&[3, 0], &STANDARD, &lent, 0), (both(2, 1), [2, 2]));
         assert_eq!(refused(&[5, 0], &STANDARD, &lent, 0), (both(3, 0), [3, 3]));
         assert_eq!(refused(&[0x0c, 16], &STANDARD, &lent, 0), (both(12, 0), [12, 12]));
+        assert_eq!(refused(&[0x0d, 16, 0], &STANDARD, &lent, 0), (both(14, 0), [14, 14]));
         assert_eq!(refused(&[3; 4097], &STANDARD, &lent, 0), (both(1, 4096), [1, 1]));
         assert_eq!(refused(&[], &STANDARD, &labelled(&[0]), 0), (both(4, 1), [4, 4]));
         assert_eq!(refused(&[], &STANDARD, &labelled(&[0, -1]), 0), (both(5, 1), [5, 5]));
@@ -695,7 +608,7 @@ fn sheets_refused() {
     assert_eq!(refused(&[3; 4097]), Refusal::new(1, 4096));
     assert_eq!(refused(&[[3; 4096].as_slice(), &[0xff]].concat()), Refusal::new(1, 4096));
     assert_eq!(refused(&[3, 0]), Refusal::new(2, 1));
-    assert_eq!(refused(&[3, 0x0d]), Refusal::new(2, 1));
+    assert_eq!(refused(&[3, 0x0f]), Refusal::new(2, 1));
     assert_eq!(refused(&[3, 5, 1, 2, 3, 4, 5, 6, 7]), Refusal::new(3, 1));
     assert_eq!(refused(&[9, 1]), Refusal::new(3, 0));
     assert_eq!(refused(&[3, 0x0c]), Refusal::new(3, 1));
@@ -727,9 +640,9 @@ fn cells_refused() {
 fn tables_refused() {
     let refused = |bytes: &[u8]| Table::parse(bytes).err().map(|refusal| refusal.place);
     assert_eq!(refused(&STANDARD), None);
-    assert_eq!(refused(&STANDARD[..54]), Some(54));
+    assert_eq!(refused(&STANDARD[..59]), Some(59));
     assert_eq!(refused(&[]), Some(0));
-    assert_eq!(refused(&[&STANDARD[..], &[0x10]].concat()), Some(55));
+    assert_eq!(refused(&[&STANDARD[..], &[0x10]].concat()), Some(60));
     assert_eq!(refused(&[0; 513]), Some(512));
     assert_eq!(refused(&[0x10]), Some(0));
     assert_eq!(refused(&[0x17, 0x17]), Some(1));
@@ -800,7 +713,7 @@ fn jobs() {
 #[test]
 fn the_standard_table_is_the_standard_rules() {
     let table = Table::parse(&STANDARD).unwrap();
-    for code in 0x01..=0x0c {
+    for code in 0x01..=0x0e {
         let inputs = model::sheet::inputs_of(code);
         for bits in 0..256u32 {
             let part = |index: u32| bits >> (2 * index) & 3;

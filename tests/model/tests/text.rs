@@ -55,7 +55,7 @@ fn is_normal(text: &[u8]) -> bool {
         [b'0'] => true,
         [b'-', digits @ ..] | digits => !digits.starts_with(b"0"),
     };
-    let operands = lines(text).filter_map(|line| line.splitn(2, |&byte| byte == b' ').nth(1));
+    let operands = lines(text).flat_map(|line| line.split(|&byte| byte == b' ').skip(1));
     (text.is_empty() || text.ends_with(b"\n")) && { operands }.all(is_normal_operand)
 }
 

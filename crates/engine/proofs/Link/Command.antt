@@ -3,7 +3,7 @@
 use mathlib.Core.Path.{_≡_, refl, ap, ap₂, _∙_}
 use mathlib.Core.Option.{Option, none, some}
 use mathlib.Core.Bool.{Bool, true, false}
-use mathlib.Core.List.{List, _∷_, map}
+use mathlib.Core.List.{List, _∷_, _++_, map}
 use Prim.Native.Nat.{ℕ, zero, suc, _-_, _≤_, _<_}
 use native.Mathlib.Omega.{arith}
 use native.Mathlib.Numerals.{add-one}
@@ -16,27 +16,32 @@ use Rattle.word.specs.Wrap.{Signed}
 use Rattle.word.specs.declared.exact.Exact.the-variants.{Number, Outside}
 use Rattle.word.specs.Exact.{isSigned, exactly}
 use Rattle.program.specs.declared.Command.{Command}
-use Rattle.program.specs.declared.Command.the-variants.{Add, Sub, Pop, Output, Push, Load, Store, Jump, Bnz, Call, Ret, OutputTo}
+use Rattle.program.specs.declared.Command.the-variants.{Add, Sub, Pop, Output, Push, Load, Store, Jump, Bnz, Call, Ret, OutputTo, CallN, RetV}
+use Rattle.program.specs.Command.{argumentsOf, resultsOf}
 use Rattle.machine.specs.Atom.{Atom, Entry, value, frame, numberLine}
 use Rattle.machine.specs.Environment.{Environment, barrier}
 use Rattle.machine.specs.State.{State, Stop, overflow, stackFull}
-use Rattle.machine.specs.Step.{Outcome, Request, provided, unlessBarred, stackLimit, making, request, atom, next, printing, branch}
+use Rattle.machine.specs.Step.{Outcome, Request, provided, unlessBarred, stackLimit, making, calling, request, atom, next, printing}
+use Rattle.machine.specs.Step.{branch}
 use Rattle.machine.proofs.Barrier.{barrier-held, barred-none}
 use Rattle.stack.specs.Words.{machine, pushed, dropped, gone, slotAt}
 use Rattle.step.specs.declared.find.Inputs.{Inputs}
 use Rattle.step.specs.Lent.{Cells, cells, Lent, After, after, OnStack, withStack}
 use Rattle.step.specs.Cell.{labelOf}
-use Rattle.step.specs.Find.{first, second, loadFinding, storeFinding, twoValues, oneValue, callValues, oneFrame, loadCell, storeCell}
+use Rattle.stack.specs.declared.Slot.{Slot}
+use Rattle.label.specs.Label.{bottom}
+use Rattle.step.specs.Find.{inputs, first, second, loadFinding, storeFinding, twoValues, oneValue, callValues, oneFrame, valueAndFrame, loadCell}
+use Rattle.step.specs.Find.{storeCell}
 use Rattle.step.specs.Find.{findOf}
 use Rattle.step.specs.Effect.{sumOf, branchOf, refilling, arithFrom, arithEffect, popEffect, outputEffect, pushEffect}
-use Rattle.step.specs.Effect.{loadEffect, storeEffect, jumpEffect, bnzEffect, callEffect, effectOf}
+use Rattle.step.specs.Effect.{loadEffect, storeEffect, jumpEffect, bnzEffect, frameKind, callEffect, returnEffect, effectOf}
 use Rattle.engine.specs.Memory as Memory
 use Rattle.engine.specs.Act.{writeOf, emitOf}
 use Rattle.engine.specs.Ended.{machineOf}
-use Rattle.engine.proofs.Link.Stack.{Held, held-tail, topSlot, below, slot-top, slot-below, stack-pushed}
+use Rattle.engine.proofs.Link.Stack.{Held, held-tail, Labelled, topSlot, below, slot-top, slot-below, stack-pushed, stack-inserted}
 use Rattle.engine.proofs.Link.Record.{addWrap-id, dropped-entry, dropped-entries, pushed-entry, printed-line, following-next}
 use Rattle.engine.proofs.Link.Represents.{Represents, Sound, Simulates}
-use Rattle.engine.proofs.Link.Needs.{value-needed, values-needed, frame-needed, cell-needed, room-needed}
+use Rattle.engine.proofs.Link.Needs.{value-needed, values-needed, frame-needed, calling-needed, cell-needed, room-needed}
 use Rattle.engine.proofs.Link.Runs.{cell-read, label-read, cell-stored, line-at}
 use Rattle.engine.proofs.Link.Carried.{stop-simulates, carried, goto-carried, refill-carried}
 use Rattle.engine.proofs.Link.Looks.{found, effect, Looks}
@@ -262,22 +267,50 @@ module _ {env : Environment} {o₀ : Memory.Output} {s : State} {l : Lent} {o : 
   pub ret-looks : Found Ret
   unfolding request findOf oneFrame effectOf jumpEffect gone
   ret-looks =
-      rw first-is (frame-needed (Asks Ret) (s .stack) _ _ _ refl (λ a rest e.
+      rw first-is (frame-needed (Asks Ret) false (s .stack) _ _ _ _ refl refl (λ a rest e.
       (rw e, λ p _. goto-carried env r (atom (a .number) p) rest (rw (first-is, e, dropped-entry)) (under-one e))))
 
-  pub call-looks : Found Call
-  unfolding request findOf callValues effectOf callEffect gone
-  call-looks =
-      rw (first-is, second-is) (values-needed (Asks Call) (s .stack) _ _ _ refl (λ a b rest e. (
-        rw e,
+  -- the value stands where the frame stood
+  pub ret-v-looks : Found RetV
+  unfolding request findOf valueAndFrame effectOf returnEffect gone
+  ret-v-looks =
+      rw first-is (value-needed (Asks RetV) (s .stack) _ _ _ refl (λ v under e.
+      rw (second-is, ap topSlot e, ap (λ es. topSlot (below es)) e) (frame-needed (Asks RetV) true under _ _ _ _ refl refl (λ a rest g. (
+        ap (λ (x : Slot). inputs 2 (v .label) (x .label .0) bottom) (ap topSlot g),
         λ p label.
-            let d : suc (suc (length rest)) ≤ stackLimit = depth e in
-            let one : length rest < stackLimit = omega arith in
-            let two : suc (length rest) < stackLimit = omega arith in
-            let back = atom (s .pc .number +ℤ pos 1) label in
-            goto-carried env r (atom (a .number) p) (value b ∷ frame back ∷ rest)
-            (rw (first-is, e, dropped-entries, grown (length rest) one, grown (suc (length rest)) two))
-            (rw (second-is, e, dropped-entries, addWrap-id (s .pc .number) (pos 1) on, grown (length rest) one)
-            (stack-pushed _ _ _ (value b) (frame back ∷ rest) (l .stack) two (h .space)
-            (stack-pushed _ _ _ (frame back) rest (l .stack) one (h .space) (under-two e)))),
-      )))
+            let f : s .stack ≡ value v ∷ frame true a ∷ rest = e ∙ ap (λ (es : List Entry). value v ∷ es) g in
+            let d : suc (suc (length rest)) ≤ stackLimit = depth f in
+            let fits : length rest < stackLimit = omega arith in
+            goto-carried env r (atom (a .number) p) (value (atom (v .number) label) ∷ rest)
+            (rw (second-is, f, dropped-entries, grown (length rest) fits))
+            (rw (first-is, f, dropped-entries)
+            (stack-pushed _ _ _ (value (atom (v .number) label)) rest (l .stack) fits (h .space) (under-two f))),
+      )))))
+
+  -- what Call and CallN ask and do: the frame stands under the arguments
+  calling-looks : (c : Command) (n results : ℕ)
+      → ((p label : ℕ) → effect c (machineOf s) l p label ≡ withStack l (callEffect p label (machineOf s) n (frameKind results) (l .stack)))
+      → Asks c (calling s n results) (callValues (machineOf s) (l .stack) n)
+  unfolding callValues callEffect gone
+  calling-looks c n results is =
+      calling-needed (Asks c) (l .stack) (h .space) n (s .stack) _ _ _ (r .stack) (h .labels .stack) (h .depth) refl
+      (λ a arguments rest v e. (
+        rw (first-is, e),
+        λ p label.
+            let back : Entry = frame (ltb 0 results) (atom (s .pc .number +ℤ pos 1) label) in
+            let size : length (arguments ++ (back ∷ rest)) ≡ length (s .stack) = rw (e, length-append, length-append) (omega arith) in
+            let labelled : Labelled (value a ∷ arguments ++ rest) = rw e at (h .labels .stack) in
+            rw (is p label)
+            (goto-carried env r (atom (a .number) p) (arguments ++ (back ∷ rest))
+            (rw (first-is, size, e))
+            (rw (e, addWrap-id (s .pc .number) (pos 1) on)
+            (stack-inserted _ _ _ (value a) back arguments rest v (depth e) (h .space) (rw e at (r .stack)) (labelled .1)))),
+      ))
+
+  pub call-looks : Found Call
+  unfolding request findOf effectOf
+  call-looks = calling-looks Call 1 0 (λ p label. refl)
+
+  pub call-n-looks : (z : ℤ) → Found (CallN z)
+  unfolding request findOf effectOf
+  call-n-looks z = calling-looks (CallN z) (argumentsOf z) (resultsOf z) (λ p label. refl)

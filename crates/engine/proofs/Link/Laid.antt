@@ -23,6 +23,13 @@ module _ {A : Type 0} where
   unfolding laid
   laid-prefix xs ys e = laid-start xs _ (e ∙ append-assoc xs ys _)
 
+  -- laid over what is as long and has more behind it
+  pub laid-over : (xs ys zs old : List A) → length xs ≡ length ys → laid xs (laid (ys ++ zs) old) ≡ laid (xs ++ zs) old
+  unfolding laid
+  laid-over xs ys zs old e =
+      let m : length (xs ++ zs) ≡ length (ys ++ zs) = rw (length-append, length-append) (omega arith) in
+      rw (e, append-assoc, drop-append-seam, m, append-assoc)
+
   pub laid-set : (xs : List A) (x : A) (old : List A) (n : ℕ) → length xs ≡ n → n < length old
       → set (laid xs old) n x ≡ laid (xs ++ (x ∷ [])) old
   unfolding laid

@@ -33,7 +33,7 @@ askedFor k = record { code = pos (codeOf (k .opcode)); pc = k .pc; inputs = find
 module _ (c : Command) (m : Machine) (l : Lent) where
   -- what the command finds on words
   abbrev pub found : Inputs
-  found = findOf (codeOf (opcode c)) m l
+  found = findOf (codeOf (opcode c)) (operand c) m l
 
   -- what it does there, with a new place label and a result label
   abbrev pub effect : (p r : ℕ) → After

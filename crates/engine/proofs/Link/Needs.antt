@@ -2,22 +2,24 @@
 -- Assumes nothing.
 use mathlib.Core.Path.{_≡_, refl, ap}
 use mathlib.Core.Bool.{Bool, true, false}
-use mathlib.Core.List.{List, [], _∷_}
+use mathlib.Core.List.{List, [], _∷_, _++_}
 use Prim.Native.Nat.{ℕ, zero, suc, _≤_, _<_, zero-le}
 use native.Mathlib.Omega.{arith}
 use lib.IntN.{ℤ, pos, negsuc}
 use lib.ListN.{length}
+use lib.Dec.{eqb}
 use borrow.Author.Tests.{lt-ltb, le-ltb}
 use Rattle.word.specs.declared.number.Index.{Index}
 use Rattle.word.specs.declared.number.Index.the-variants as Index
 use Rattle.word.specs.Number.{indexOf}
 use Rattle.machine.specs.Atom.{Atom, Entry, value, frame}
-use Rattle.machine.specs.State.{Stop, valueMissing, frameMissing, addressOutside}
-use Rattle.machine.specs.Step.{Outcome, stopped, Request, halt, provided, withValue, withValues, withFrame, withElement, withCell}
-use Rattle.machine.proofs.Request.{At, here, there}
+use Rattle.machine.specs.State.{Stop, valueMissing, frameMissing, wrongReturn, addressOutside}
+use Rattle.machine.specs.Step.{Outcome, stopped, Request, halt, provided, withValue, withValues, withArguments}
+use Rattle.machine.specs.Step.{withFrame, withElement, withCell}
+use Rattle.machine.proofs.Request.{At, here, there, Values, none, more}
 use Rattle.word.specs.Choose.{choose}
-use Rattle.step.specs.Find.{isValue, isFrame}
-use Rattle.engine.proofs.Link.Stack.{topSlot, below}
+use Rattle.step.specs.Find.{isValue, topValues}
+use Rattle.engine.proofs.Link.Stack.{Held, held-tail, Labelled, topSlot, below, slot-top, top-values, no-values}
 
 -- R relates what the machine asks to what is left on words
 module _ {B : Type 0} (R : Request → B → Type 0) where
@@ -26,25 +28,73 @@ module _ {B : Type 0} (R : Request → B → Type 0) where
       → R (withValue es k) (choose (isValue (topSlot es)) x y)
   value-needed [] k x y h f = h
   value-needed (value a ∷ rest) k x y h f = f a rest refl
-  value-needed (frame a ∷ rest) k x y h f = h
+  value-needed (frame owes a ∷ rest) k x y h f = by owes
+    where
+      by : (b : Bool) → R (halt valueMissing) (choose (eqb (choose b 2 1) 0) x y)
+      by true = h
+      by false = h
 
   pub values-needed : (es : List Entry) (k : Atom → Atom → List Entry → Request) (x y : B) → R (halt valueMissing) y
       → ((a b : Atom) (rest : List Entry) → es ≡ value a ∷ value b ∷ rest → R (k a b rest) x)
       → R (withValues es k) (choose (isValue (topSlot (below es))) (choose (isValue (topSlot es)) x y) y)
   values-needed [] k x y h f = h
   values-needed (value a ∷ rest) k x y h f = value-needed rest (k a) x y h (λ b rest e. f a b _ (ap (λ (es : List Entry). value a ∷ es) e))
-  values-needed (frame a ∷ rest) k x y h f = both-same (isValue (topSlot rest)) h
+  values-needed (frame owes a ∷ rest) k x y h f = by (isValue (topSlot rest)) owes
     where
-      both-same : (b : Bool) → R (halt valueMissing) y → R (halt valueMissing) (choose b y y)
-      both-same true h = h
-      both-same false h = h
+      by : (b c : Bool) → R (halt valueMissing) (choose b (choose (eqb (choose c 2 1) 0) x y) y)
+      by true true = h
+      by true false = h
+      by false c = h
 
-  pub frame-needed : (es : List Entry) (k : Atom → List Entry → Request) (x y : B) → R (halt frameMissing) y
-      → ((a : Atom) (rest : List Entry) → es ≡ frame a ∷ rest → R (k a rest) x)
-      → R (withFrame es k) (choose (isFrame (topSlot es)) x y)
-  frame-needed [] k x y h f = h
-  frame-needed (value a ∷ rest) k x y h f = h
-  frame-needed (frame a ∷ rest) k x y h f = f a rest refl
+  pub frame-needed : (returns : Bool) (es : List Entry) (k : Atom → List Entry → Request) (x y z : B) → R (halt frameMissing) y
+      → R (halt wrongReturn) z → ((a : Atom) (rest : List Entry) → es ≡ frame returns a ∷ rest → R (k a rest) x)
+      → R (withFrame returns es k)
+      (choose (eqb (topSlot es .kind) (choose returns 2 1)) x (choose (eqb (topSlot es .kind) (choose returns 1 2)) z y))
+  frame-needed true [] k x y z h g f = h
+  frame-needed false [] k x y z h g f = h
+  frame-needed true (value a ∷ rest) k x y z h g f = h
+  frame-needed false (value a ∷ rest) k x y z h g f = h
+  frame-needed true (frame true a ∷ rest) k x y z h g f = f a rest refl
+  frame-needed true (frame false a ∷ rest) k x y z h g f = g
+  frame-needed false (frame true a ∷ rest) k x y z h g f = g
+  frame-needed false (frame false a ∷ rest) k x y z h g f = f a rest refl
+
+  -- so many values on top of the entries es of a stack
+  module _ (st : List ℤ) (room : 768 ≤ length st) where
+    pub arguments-needed : (n : ℕ) (es : List Entry) (k : List Entry → List Entry → Request) (x y : B) → Held es st → Labelled es
+        → length es ≤ 256 → R (halt valueMissing) y
+        → ((arguments rest : List Entry) → Values n arguments → es ≡ arguments ++ rest → R (k arguments rest) x)
+        → R (withArguments n es k) (choose (topValues st (length es) n) x y)
+    unfolding topValues
+    arguments-needed zero es k x y held labels fits h f = f [] es none refl
+    arguments-needed (suc n) [] k x y held labels fits h f = rw (no-values st n) h
+    arguments-needed (suc n) (value a ∷ es) k x y held labels fits h f =
+        rw (top-values st (length es) n fits, slot-top (value a ∷ es) held labels fits room)
+        (arguments-needed n es _ x y (held-tail (value a) es held) (labels .1) (omega arith) h (λ arguments rest v e.
+        f (value a ∷ arguments) rest (more v) (ap (λ (l : List Entry). value a ∷ l) e)))
+    arguments-needed (suc n) (frame owes a ∷ es) k x y held labels fits h f =
+        rw (top-values st (length es) n fits, slot-top (frame owes a ∷ es) held labels fits room) (by owes)
+      where
+        by : (b : Bool) → R (halt valueMissing) (choose (choose (eqb (choose b 2 1) 0) (topValues st (length es) n) false) x y)
+        by true = h
+        by false = h
+
+    -- a target on top of them
+    pub calling-needed : (n : ℕ) (es : List Entry) (k : Atom → List Entry → List Entry → Request) (x y : B) → Held es st → Labelled es
+        → length es ≤ 256 → R (halt valueMissing) y
+        → ((a : Atom) (arguments rest : List Entry) → Values n arguments → es ≡ value a ∷ arguments ++ rest → R (k a arguments rest) x)
+        → R (withValue es (λ a below. withArguments n below (k a))) (choose (topValues st (length es) (suc n)) x y)
+    calling-needed n [] k x y held labels fits h f = rw (no-values st n) h
+    calling-needed n (value a ∷ es) k x y held labels fits h f =
+        rw (top-values st (length es) n fits, slot-top (value a ∷ es) held labels fits room)
+        (arguments-needed n es (k a) x y (held-tail (value a) es held) (labels .1) (omega arith) h (λ arguments rest v e.
+        f a arguments rest v (ap (λ (l : List Entry). value a ∷ l) e)))
+    calling-needed n (frame owes a ∷ es) k x y held labels fits h f =
+        rw (top-values st (length es) n fits, slot-top (frame owes a ∷ es) held labels fits room) (by owes)
+      where
+        by : (b : Bool) → R (halt valueMissing) (choose (choose (eqb (choose b 2 1) 0) (topValues st (length es) n) false) x y)
+        by true = h
+        by false = h
 
 element-all : (Q : Request → Type 0) (cells : List Atom) (i : ℕ) (k : Atom → Request)
     → (length cells ≤ i → Q (halt addressOutside)) → ((c : Atom) → i < length cells → At cells i c → Q (k c))

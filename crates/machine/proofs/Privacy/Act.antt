@@ -2,26 +2,28 @@
 -- Assumes nothing.
 use mathlib.Core.Path.{_≡_, refl}
 use mathlib.Core.Bool.{Bool, true, false}
-use mathlib.Core.List.{List, map}
-use Prim.Native.Nat.{ℕ}
+use mathlib.Core.List.{List, [], _∷_, map, map-append}
+use Prim.Native.Nat.{ℕ, zero, suc}
 use lib.IntN.{ℤ, pos, _+ℤ_, _-ℤ_}
 use lib.ListN.{length}
 use lib.Dec.{ltb}
 use Rattle.word.specs.Exact.{isSigned}
 use Rattle.label.specs.Label.{join, flows}
 use Rattle.program.specs.declared.Command.{Command}
-use Rattle.program.specs.declared.Command.the-variants.{Add, Sub, Pop, Output, Push, Load, Store, Jump, Bnz, Call, Ret, OutputTo}
-use Rattle.machine.specs.Atom.{Atom, Entry, Line}
+use Rattle.program.specs.Command.{argumentsOf, resultsOf}
+use Rattle.program.specs.declared.Command.the-variants.{Add, Sub, Pop, Output, Push, Load, Store, Jump, Bnz, Call, Ret, OutputTo, CallN, RetV}
+use Rattle.machine.specs.Atom.{Atom, Entry, value, Line}
 use Rattle.machine.specs.Rule.{missing, allowed, allowedIf, standard}
 use Rattle.machine.specs.Environment.{Environment, barrier}
 use Rattle.machine.specs.State.{State, Stop, overflow, stackFull}
-use Rattle.machine.specs.Step.{Outcome, stepped, stackLimit, provided, unlessBarred, Request, withValue, withValues, withFrame}
+use Rattle.machine.specs.Step.{Outcome, stepped, stackLimit, provided, unlessBarred, Request, withValue, withValues, withArguments}
+use Rattle.machine.specs.Step.{withFrame, calling}
 use Rattle.machine.specs.Step.{withCell, of, keyOf, decide, consult, making, outputting, request, execute, atom, branch, storing}
 use Rattle.machine.proofs.Barrier.{barred-all}
 use Rattle.machine.proofs.Request.{At, value-all, values-all, frame-all, cell-all, provided-all}
 use Rattle.machine.proofs.Step.{Gives}
 use Rattle.machine.proofs.Privacy.Seen.{Seen, see, joined, see-one, see-both, see-bottom}
-use Rattle.machine.proofs.Privacy.Erasure.{View, Slot, slot, erase, pull, pulls, unwind, first, second, increment, lineOf, make, prints}
+use Rattle.machine.proofs.Privacy.Erasure.{View, Slot, slot, erase, pull, pulls, grab, unwind, enter, first, second, increment, lineOf, make, prints}
 use Rattle.machine.proofs.Privacy.Erasure.{act}
 use Rattle.machine.proofs.Privacy.Effect.{see-cell, see-stored, view-append, see-line}
 
@@ -39,15 +41,23 @@ module _ (S : ℕ) (c : Command) (s : State) where
       → Shows (pull v (map (slot S) es) l) (withValue es k)
   value-shows v es k l h = value-all (Shows (pull v (map (slot S) es) l)) es k tt (λ a rest e. rw e (h a rest))
 
+  arguments-shows : (v : View) (n : ℕ) (es : List Entry) (k : List Entry → List Entry → Request) (l : List Slot → List Slot → View)
+      → ((arguments rest : List Entry) → Shows (l (map (slot S) arguments) (map (slot S) rest)) (k arguments rest))
+      → Shows (grab v n (map (slot S) es) l) (withArguments n es k)
+  arguments-shows v zero es k l h = h [] es
+  arguments-shows v (suc n) es k l h =
+      value-shows v es _ _ (λ a below. arguments-shows v n below _ _ (λ arguments rest. h (value a ∷ arguments) rest))
+
   values-shows : (v : View) (es : List Entry) (k : Atom → Atom → List Entry → Request) (l : Seen → Seen → List Slot → View)
       → ((a b : Atom) (rest : List Entry) → Shows (l (see S a) (see S b) (map (slot S) rest)) (k a b rest))
       → Shows (pulls v (map (slot S) es) l) (withValues es k)
   values-shows v es k l h = values-all (Shows (pulls v (map (slot S) es) l)) es k tt (λ a b rest e. rw e (h a b rest))
 
-  frame-shows : (v : View) (es : List Entry) (k : Atom → List Entry → Request) (l : Seen → List Slot → View)
+  frame-shows : (v : View) (gives : Bool) (es : List Entry) (k : Atom → List Entry → Request) (l : Seen → List Slot → View)
       → ((a : Atom) (rest : List Entry) → Shows (l (see S a) (map (slot S) rest)) (k a rest))
-      → Shows (unwind v (map (slot S) es) l) (withFrame es k)
-  frame-shows v es k l h = frame-all (Shows (unwind v (map (slot S) es) l)) es k tt (λ a rest e. rw e (h a rest))
+      → Shows (unwind v gives (map (slot S) es) l) (withFrame gives es k)
+  frame-shows v true es k l h = frame-all (Shows (unwind v true (map (slot S) es) l)) true es k tt tt (λ a rest e. rw e (h a rest))
+  frame-shows v false es k l h = frame-all (Shows (unwind v false (map (slot S) es) l)) false es k tt tt (λ a rest e. rw e (h a rest))
 
   cell-shows : (cells : List Atom) (z : ℤ) (k : ℕ → Atom → Request) (w : View)
       → ((i : ℕ) (a : Atom) → z ≡ pos i → At cells i a → Shows w (k i a)) → Shows w (withCell cells z k)
@@ -96,6 +106,15 @@ outputting-shows S env c s page e =
       see-both S first a (s .pc),
     ))))
 
+-- the place by the join of the target's label and the place's; the frame by the place's, under the arguments
+calling-shows : (S : ℕ) (c : Command) (s : State) (n results : ℕ)
+    → ((a : Atom) → standard (keyOf c s (of a) missing missing) ≡ allowed (join (a .label) (s .pc .label)) (s .pc .label))
+    → Shows S c s (enter (erase S s) n results) (calling s n results)
+calling-shows S c s n results e =
+    value-shows S c s _ (s .stack) _ _ (λ a below.
+    arguments-shows S c s _ n below _ _ (λ arguments rest.
+    rw (e a) (rw (map-append, see-one S increment (s .pc), see-both S first a (s .pc)))))
+
 pub act-shows : (S : ℕ) (env : Environment) (c : Command) (s : State) → Gives (λ t. erase S t ≡ act c (erase S s)) (execute standard env c s)
 unfolding execute request standard act
 act-shows S env Add s = making-shows S Add s _+ℤ_ (λ a b. refl)
@@ -115,7 +134,9 @@ act-shows S env Store s =
 act-shows S env Jump s = value-shows S Jump s _ (s .stack) _ _ (λ a rest. rw (see-both S first a (s .pc)))
 act-shows S env (Bnz n) s =
     value-shows S (Bnz n) s _ (s .stack) _ _ (λ a rest. rw (see-both S (λ m place. branch m place n) a (s .pc)))
-act-shows S env Call s =
-    values-shows S Call s _ (s .stack) _ _ (λ a b rest. rw (see-one S increment (s .pc), see-both S first a (s .pc)))
-act-shows S env Ret s = frame-shows S Ret s _ (s .stack) _ _ (λ a rest. refl)
+act-shows S env Call s = calling-shows S Call s 1 0 (λ a. refl)
+act-shows S env Ret s = frame-shows S Ret s _ false (s .stack) _ _ (λ a rest. refl)
 act-shows S env (OutputTo page) s = outputting-shows S env (OutputTo page) s page (λ a. refl)
+act-shows S env (CallN z) s = calling-shows S (CallN z) s (argumentsOf z) (resultsOf z) (λ a. refl)
+act-shows S env RetV s =
+    value-shows S RetV s _ (s .stack) _ _ (λ v below. frame-shows S RetV s _ true below _ _ (λ a rest. rw (see-both S first v (s .pc))))

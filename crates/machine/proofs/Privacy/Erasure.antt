@@ -5,11 +5,14 @@ use mathlib.Core.List.{List, [], _∷_, _++_, map}
 use Prim.Native.Nat.{ℕ, zero, suc}
 use lib.IntN.{ℤ, pos, negsuc, _+ℤ_, _-ℤ_}
 use lib.ListN.{length, set}
+use lib.Dec.{ltb}
+use mathlib.Core.Bool.{Bool, true, false}
 use mathlib.Core.Option.{Option, none, some}
 use Rattle.word.specs.Choose.{choose}
 use Rattle.label.specs.Label.{bottom}
 use Rattle.program.specs.declared.Command.{Command}
-use Rattle.program.specs.declared.Command.the-variants.{Add, Sub, Pop, Output, Push, Load, Store, Jump, Bnz, Call, Ret, OutputTo}
+use Rattle.program.specs.Command.{argumentsOf, resultsOf}
+use Rattle.program.specs.declared.Command.the-variants.{Add, Sub, Pop, Output, Push, Load, Store, Jump, Bnz, Call, Ret, OutputTo, CallN, RetV}
 use Rattle.machine.specs.Atom.{Atom, Entry, value, frame, Line, numberLine, endLine}
 use Rattle.machine.specs.State.{State}
 use Rattle.machine.specs.Step.{atom, branch}
@@ -17,10 +20,10 @@ use Rattle.machine.specs.Run.{atEnd, commandAt}
 use Rattle.machine.specs.Claim.{view}
 use Rattle.machine.proofs.Privacy.Seen.{Seen, shown, unseen, see, one, both}
 
--- a stack entry: a value or a return frame
+-- a stack entry: a value, or a return frame, of which it is seen whether a result is due
 pub data Slot : Type 0 where
   holds : Seen → Slot
-  returns : Seen → Slot
+  returns : Bool → Seen → Slot
 
 pub record View : Type 0 where
   pub pc : Seen
@@ -30,7 +33,7 @@ pub record View : Type 0 where
 
 abbrev pub slot : ℕ → Entry → Slot
 slot S (value a) = holds (see S a)
-slot S (frame a) = returns (see S a)
+slot S (frame owes a) = returns owes (see S a)
 
 -- what a reader of S sees of a state, entry for entry and cell for cell
 abbrev pub erase : ℕ → State → View
@@ -45,17 +48,28 @@ erase S s =
 abbrev pub pull : View → List Slot → (Seen → List Slot → View) → View
 pull v [] k = v
 pull v (holds x ∷ rest) k = k x rest
-pull v (returns x ∷ rest) k = v
+pull v (returns owes x ∷ rest) k = v
 
 -- two values on top
 abbrev pub pulls : View → List Slot → (Seen → Seen → List Slot → View) → View
 pulls v es k = pull v es (λ x below. pull v below (λ y rest. k x y rest))
 
--- a frame on top
-abbrev pub unwind : View → List Slot → (Seen → List Slot → View) → View
-unwind v [] k = v
-unwind v (holds x ∷ rest) k = v
-unwind v (returns x ∷ rest) k = k x rest
+-- so many values on top
+abbrev pub grab : View → ℕ → List Slot → (List Slot → List Slot → View) → View
+grab v zero es k = k [] es
+grab v (suc n) es k = pull v es (λ x below. grab v n below (λ arguments rest. k (holds x ∷ arguments) rest))
+
+-- a frame on top that owes what is returned
+abbrev pub agreeing : View → (gives owes : Bool) → View → View
+agreeing v true true w = w
+agreeing v true false w = v
+agreeing v false true w = v
+agreeing v false false w = w
+
+abbrev pub unwind : View → (gives : Bool) → List Slot → (Seen → List Slot → View) → View
+unwind v gives [] k = v
+unwind v gives (holds x ∷ rest) k = v
+unwind v gives (returns owes x ∷ rest) k = agreeing v gives owes (k x rest)
 
 -- the cell at an address, if the address is seen
 abbrev pub element : List Seen → ℕ → Seen
@@ -125,6 +139,12 @@ prints v page = pull v (v .stack) (λ x rest. print v page rest (both first x (v
 abbrev pub make : View → (ℤ → ℤ → ℤ) → View
 make v f = pulls v (v .stack) (λ x y rest. onward v (holds (both f x y) ∷ rest))
 
+-- Call's and CallN's: the frame stands under the arguments
+abbrev pub enter : View → (arguments results : ℕ) → View
+enter v n results =
+    pull v (v .stack) (λ x below. grab v n below (λ arguments rest.
+    moveTo v (both first x (v .pc)) (arguments ++ (returns (ltb 0 results) (following (v .pc)) ∷ rest))))
+
 unfoldable pub act : Command → View → View
 act Add v = make v _+ℤ_
 act Sub v = make v _-ℤ_
@@ -136,10 +156,11 @@ act Store v =
     pulls v (v .stack) (λ x y rest. storeTo v rest (both first x (v .pc)) (both first (both second x y) (v .pc)))
 act Jump v = pull v (v .stack) (λ x rest. moveTo v (both first x (v .pc)) rest)
 act (Bnz n) v = pull v (v .stack) (λ x rest. moveTo v (both (λ m place. branch m place n) x (v .pc)) rest)
-act Call v =
-    pulls v (v .stack) (λ x y rest. moveTo v (both first x (v .pc)) (holds y ∷ returns (following (v .pc)) ∷ rest))
-act Ret v = unwind v (v .stack) (λ x rest. moveTo v x rest)
+act Call v = enter v 1 0
+act Ret v = unwind v false (v .stack) (λ x rest. moveTo v x rest)
 act (OutputTo page) v = prints v page
+act (CallN z) v = enter v (argumentsOf z) (resultsOf z)
+act RetV v = pull v (v .stack) (λ y below. unwind v true below (λ x rest. moveTo v x (holds (both first y (v .pc)) ∷ rest)))
 
 -- ════════════════════════════════════════════════════════════════════════════════════════════
 -- Runs on views. While the place is not seen, neither is the stack above the topmost frame that is seen
@@ -148,8 +169,8 @@ act (OutputTo page) v = prints v page
 abbrev pub cut : List Slot → List Slot
 cut [] = []
 cut (holds x ∷ rest) = cut rest
-cut (returns (shown a) ∷ rest) = returns (shown a) ∷ rest
-cut (returns unseen ∷ rest) = cut rest
+cut (returns owes (shown a) ∷ rest) = returns owes (shown a) ∷ rest
+cut (returns owes unseen ∷ rest) = cut rest
 
 abbrev pub cutAt : Seen → List Slot → List Slot
 cutAt (shown p) es = es
@@ -169,10 +190,21 @@ close v = record { pc = v .pc; stack = v .stack; memory = v .memory; lines = v .
 abbrev pub actAt : List Command → ℤ → View → View
 actAt cs z v = choose (atEnd (length cs) z) (close v) (actSome (commandAt cs z) v)
 
+-- what a return from a place that is not seen leaves on the stack: the frame decides, for only a return that gives what it owes is carried
+-- out (stop 11); a result has the place's label and is not seen
+abbrev pub left : (owes : Bool) → List Slot → List Slot
+left true rest = holds unseen ∷ rest
+left false rest = rest
+
+abbrev pub back : View → List Slot → View
+back v [] = v
+back v (holds x ∷ rest) = v
+back v (returns owes x ∷ rest) = moveTo v x (left owes rest)
+
 -- the command at a place that is seen, or the end; otherwise all that can be seen is the return to a frame
 abbrev pub actHere : List Command → Seen → View → View
 actHere cs (shown p) v = actAt cs (p .number) v
-actHere cs unseen v = act Ret v
+actHere cs unseen v = back v (v .stack)
 
 unfoldable pub move : List Command → View → View
 move cs v = trim (actHere cs (v .pc) v)

@@ -12,24 +12,33 @@ use lib.ListN.{length}
 use Rattle.word.specs.Choose.{choose}
 use mathlib.Core.Option.{Option, none, some}
 use Rattle.program.specs.declared.Command.{Command}
-use Rattle.program.specs.declared.Command.the-variants.{Add, Sub, Pop, Output, Push, Load, Store, Jump, Bnz, Call, Ret, OutputTo}
+use Rattle.program.specs.Command.{argumentsOf, resultsOf}
+use Rattle.program.specs.declared.Command.the-variants.{Add, Sub, Pop, Output, Push, Load, Store, Jump, Bnz, Call, Ret, OutputTo, CallN, RetV}
 use Rattle.machine.specs.Atom.{Atom, Line}
 use Rattle.machine.specs.Claim.{Start, OneStartsOther}
 use Rattle.machine.specs.Run.{atEnd, commandAt}
 use Rattle.machine.proofs.Privacy.Seen.{Seen, shown, unseen, showIf, both}
-use Rattle.machine.proofs.Privacy.Erasure.{View, Slot, holds, returns, pull, pulls, unwind, moveTo, first, lineOf, endOf, written}
-use Rattle.machine.proofs.Privacy.Erasure.{prints, act, cut, trim, actSome, close, actAt, actHere, move, moves}
+use Rattle.machine.proofs.Privacy.Erasure.{View, Slot, holds, returns, pull, pulls, grab, unwind, first, lineOf, endOf, written}
+use Rattle.machine.proofs.Privacy.Erasure.{prints, enter, act, cut, trim, actSome, close, actAt, back, actHere, move, moves}
 
 -- what a command does with the values on top, which stand above every frame
 pull-all : (P : View → Type 0) (v : View) (es : List Slot) (k : Seen → List Slot → View)
     → P v → ((x : Seen) (rest : List Slot) → cut es ≡ cut rest → P (k x rest)) → P (pull v es k)
 pull-all P v [] k h f = h
 pull-all P v (holds x ∷ rest) k h f = f x rest refl
-pull-all P v (returns x ∷ rest) k h f = h
+pull-all P v (returns owes x ∷ rest) k h f = h
 
 pulls-all : (P : View → Type 0) (v : View) (es : List Slot) (k : Seen → Seen → List Slot → View)
     → P v → ((x y : Seen) (rest : List Slot) → cut es ≡ cut rest → P (k x y rest)) → P (pulls v es k)
 pulls-all P v es k h f = pull-all P v es _ h (λ x below e. pull-all P v below _ h (λ y rest g. f x y rest (e ∙ g)))
+
+-- values stand above every frame, however many
+grab-all : (P : View → Type 0) (v : View) (n : ℕ) (es : List Slot) (k : List Slot → List Slot → View) → P v
+    → ((arguments rest : List Slot) → ((es : List Slot) → cut (arguments ++ es) ≡ cut es) → cut es ≡ cut rest → P (k arguments rest))
+    → P (grab v n es k)
+grab-all P v zero es k h f = f [] es (λ es. refl) refl
+grab-all P v (suc n) es k h f =
+    pull-all P v es _ h (λ x below e. grab-all P v n below _ h (λ arguments rest above g. f (holds x ∷ arguments) rest above (e ∙ g)))
 
 -- ════════════════════════════════════════════════════════════════════════════════════════════
 -- A place that is not seen
@@ -40,7 +49,27 @@ within es cells ls = record { pc = unseen; stack = es; memory = cells; lines = l
 
 -- a command leaves what is seen, or is seen as a return
 abbrev pub Quiet : View → View → Type 0
-Quiet v w = (trim w ≡ trim v) ⊎ (trim w ≡ trim (act Ret (trim v)))
+Quiet v w = (trim w ≡ trim v) ⊎ (trim w ≡ trim (back (trim v) (trim v .stack)))
+
+-- a return to a frame that is seen is the one that this frame owes; to one that is not it stays unseen
+module _ (cells : List Seen) (ls : List Line) where
+  ret-quiet : (es : List Slot) → Quiet (within es cells ls) (act Ret (within es cells ls))
+  unfolding act
+  ret-quiet [] = inl refl
+  ret-quiet (holds x ∷ rest) = inl refl
+  ret-quiet (returns true x ∷ rest) = inl refl
+  ret-quiet (returns false (shown a) ∷ rest) = inr refl
+  ret-quiet (returns false unseen ∷ rest) = inl refl
+
+  retV-quiet : (es : List Slot) → Quiet (within es cells ls) (act RetV (within es cells ls))
+  unfolding act
+  retV-quiet [] = inl refl
+  retV-quiet (returns owes x ∷ rest) = inl refl
+  retV-quiet (holds y ∷ []) = inl refl
+  retV-quiet (holds y ∷ holds x ∷ rest) = inl refl
+  retV-quiet (holds y ∷ returns false x ∷ rest) = inl refl
+  retV-quiet (holds y ∷ returns true (shown a) ∷ rest) = inr refl
+  retV-quiet (holds y ∷ returns true unseen ∷ rest) = inl refl
 
 module _ (es : List Slot) (cells : List Seen) (ls : List Line) where
   abbrev before : View
@@ -56,13 +85,10 @@ module _ (es : List Slot) (cells : List Seen) (ls : List Line) where
       → Quiet before (pulls before es k)
   pulls-quiet k f = pulls-all (Quiet before) before es k (inl refl) (λ x y rest e. inl (f x y rest e))
 
-  unwind-quiet : (es : List Slot)
-      → let v : View = within es cells ls in Quiet v (unwind v es (λ x rest. moveTo v x rest))
-  unfolding act
-  unwind-quiet [] = inl refl
-  unwind-quiet (holds x ∷ rest) = inl refl
-  unwind-quiet (returns (shown a) ∷ rest) = inr refl
-  unwind-quiet (returns unseen ∷ rest) = inl refl
+  enter-quiet : (n results : ℕ) → Quiet before (enter before n results)
+  enter-quiet n results =
+      pull-all (Quiet before) before es _ (inl refl) (λ x below e.
+      grab-all (Quiet before) before n below _ (inl refl) (λ arguments rest above g. inl (rw (above, e, g))))
 
   act-quiet : (c : Command) → Quiet before (act c before)
   unfolding act
@@ -75,9 +101,11 @@ module _ (es : List Slot) (cells : List Seen) (ls : List Line) where
   act-quiet Store = pulls-quiet _ (λ x y rest e. rw e)
   act-quiet Jump = pull-quiet _ (λ x rest e. rw e)
   act-quiet (Bnz n) = pull-quiet _ (λ x rest e. rw e)
-  act-quiet Call = pulls-quiet _ (λ x y rest e. rw e)
-  act-quiet Ret = unwind-quiet es
+  act-quiet Call = enter-quiet 1 0
+  act-quiet Ret = ret-quiet cells ls es
   act-quiet (OutputTo page) = pull-quiet _ (λ x rest e. rw (e, append-nil))
+  act-quiet (CallN z) = enter-quiet (argumentsOf z) (resultsOf z)
+  act-quiet RetV = retV-quiet cells ls es
 
 -- what holds of a view and of what each command and the end make of it holds of what the place makes of it
 module _ (P : View → Type 0) (v : View) (stays : P v) (closes : P (close v)) (acts : (c : Command) → P (act c v)) where
@@ -92,9 +120,9 @@ module _ (P : View → Type 0) (v : View) (stays : P v) (closes : P (close v)) (
       go true = closes
       go false = some-all (commandAt cs z)
 
-  here-all : (cs : List Command) (p : Seen) → P (actHere cs p v)
-  here-all cs (shown p) = at-all cs (p .number)
-  here-all cs unseen = acts Ret
+  here-all : P (back v (v .stack)) → (cs : List Command) (p : Seen) → P (actHere cs p v)
+  here-all returned cs (shown p) = at-all cs (p .number)
+  here-all returned cs unseen = returned
 
 -- the command at a place, seen or not, leaves the trimmed view or moves it
 abbrev pub Moves : List Command → View → View → Type 0
@@ -132,11 +160,23 @@ module _ (v : View) where
       → Grown (pulls v (v .stack) k)
   pulls-adds k f = pulls-all Grown v (v .stack) k (kept v refl) (λ x y rest e. kept (k x y rest) (f x y rest))
 
-  unwind-adds : (es : List Slot) (k : Seen → List Slot → View) → ((x : Seen) (rest : List Slot) → k x rest .lines ≡ v .lines)
-      → Grown (unwind v es k)
-  unwind-adds [] k f = kept v refl
-  unwind-adds (holds x ∷ rest) k f = kept v refl
-  unwind-adds (returns x ∷ rest) k f = kept (k x rest) (f x rest)
+  unwind-adds : (gives : Bool) (es : List Slot) (k : Seen → List Slot → View) → ((x : Seen) (rest : List Slot) → k x rest .lines ≡ v .lines)
+      → Grown (unwind v gives es k)
+  unwind-adds gives [] k f = kept v refl
+  unwind-adds gives (holds x ∷ rest) k f = kept v refl
+  unwind-adds true (returns true x ∷ rest) k f = kept (k x rest) (f x rest)
+  unwind-adds true (returns false x ∷ rest) k f = kept v refl
+  unwind-adds false (returns true x ∷ rest) k f = kept v refl
+  unwind-adds false (returns false x ∷ rest) k f = kept (k x rest) (f x rest)
+
+  back-adds : (es : List Slot) → Grown (back v es)
+  back-adds [] = kept v refl
+  back-adds (holds x ∷ rest) = kept v refl
+  back-adds (returns owes x ∷ rest) = adds-none (v .lines) _ refl
+
+  enter-adds : (n results : ℕ) → Grown (enter v n results)
+  enter-adds n results =
+      pull-adds _ (λ x below. grab-all Grown v n below _ (kept v refl) (λ arguments rest above e. adds-none (v .lines) _ refl))
 
   prints-adds : (page : ℤ) → Grown (prints v page)
   prints-adds page = pull-adds _ (λ x rest. (written (lineOf page) (both first x (v .pc)), refl))
@@ -152,13 +192,15 @@ module _ (v : View) where
   act-adds Store = pulls-adds _ (λ x y rest. refl)
   act-adds Jump = pull-adds _ (λ x rest. adds-none (v .lines) _ refl)
   act-adds (Bnz n) = pull-adds _ (λ x rest. adds-none (v .lines) _ refl)
-  act-adds Call = pulls-adds _ (λ x y rest. refl)
-  act-adds Ret = unwind-adds (v .stack) _ (λ x rest. refl)
+  act-adds Call = enter-adds 1 0
+  act-adds Ret = unwind-adds false (v .stack) _ (λ x rest. refl)
   act-adds (OutputTo page) = prints-adds page
+  act-adds (CallN z) = enter-adds (argumentsOf z) (resultsOf z)
+  act-adds RetV = pull-adds _ (λ y below. unwind-adds true below _ (λ x rest. refl))
 
   move-adds : (cs : List Command) → Grown (move cs v)
   unfolding move
-  move-adds cs = here-all Grown v (kept v refl) (written endOf (v .pc), refl) act-adds cs (v .pc)
+  move-adds cs = here-all Grown v (kept v refl) (written endOf (v .pc), refl) act-adds (back-adds (v .stack)) cs (v .pc)
 
 moves-adds : (cs : List Command) (n : ℕ) (v : View) → Adds (v .lines) (moves cs n v .lines)
 moves-adds cs zero v = adds-none _ _ refl

@@ -4,14 +4,14 @@ use borrow.Author.Needs.{needs}
 use native.Mathlib.Omega.{arith}
 use mathlib.Core.Bool.{Bool}
 use mathlib.Core.Path.{_≡_, _∙_, sym, ap}
-use Prim.Native.Nat.{ℕ, _-_, _<_}
+use Prim.Native.Nat.{_-_, _<_}
 use denote.Ref.{now}
 use lib.ListN.{length, getD}
 use Rattle.word.proofs.Signed.{back-ok}
 use Rattle.program.specs.declared.Fetched.the-variants.{Is}
 use Rattle.program.specs.Command.{opcodeOf}
 use Rattle.program.specs.Decode.{commandLimit}
-use Rattle.program.specs.Fetch.{permitsOf, fetchOf}
+use Rattle.program.specs.Fetch.{shapeOf, permitsOf, fetchOf}
 use Rattle.program.proofs.Checking.{Invariant, invariant-start, invariant-end, invariant-limit, invariant-unknown}
 use Rattle.program.proofs.Checking.{invariant-cut, invariant-outside, invariant-next, invariant-forward}
 use Rattle.program.proofs.check.Statement.{statement}
@@ -32,36 +32,41 @@ returns c =
     invariant-limit (now (l .before .before .args .bytes)) (l .loop .at) (l .loop .count) (l .loop .inv) (c .before .loop-test .taken)
     (c .if1 .taken)
 
--- a command was fetched, or none
-module _ (f : tie.After-fetch Inv-loop μ-loop) where
+-- the shape of the code that stands there
+module _ (c : tie.After-shape-of Inv-loop μ-loop) where
   abbrev head : tie.At-loop Inv-loop μ-loop
-  head = f .before .before .before .before .before
+  head = c .before .before .before .before .before
 
   abbrev start : tie.Start Inv-loop μ-loop
   start = head .before .before
 
   taken : head .loop .at < length (now (start .args .bytes))
-  taken = f .before .before .before .before .loop-test .taken
+  taken = c .before .before .before .before .loop-test .taken
 
   more : head .loop .count ≡ commandLimit → ⊥
-  more = f .before .before .before .if1 .left
+  more = c .before .before .before .if1 .left
+
+  shape : c .shape-of .result ≡ shapeOf (opcodeOf (getD (now (start .args .bytes)) (head .loop .at) 0))
+  shape = c .shape-of .ensures ∙ ap (λ n. shapeOf (opcodeOf n)) (c .before .wide .ensures)
+
+fetch-requires : tie.Need-fetch-requires Inv-loop μ-loop
+fetch-requires c κs = (taken c, shape c)
 
 -- a command was fetched
 module _ (c : tie.After-permits Inv-loop μ-loop) where
-  abbrev at-fetch : tie.After-fetch Inv-loop μ-loop
-  at-fetch = c .before .before .before .before
-
-  abbrev code : ℕ
-  code = getD (now (start at-fetch .args .bytes)) (head at-fetch .loop .at) 0
+  abbrev at-fetch : tie.After-shape-of Inv-loop μ-loop
+  at-fetch = c .before .before .before .before .before
 
   is : fetchOf (now (start at-fetch .args .bytes)) (head at-fetch .loop .at)
       ≡ Is (c .before .before .fetched .given .0 .0) (c .before .before .fetched .given .0 .1 .0)
-  is = sym (at-fetch .fetch .ensures) ∙ c .before .before .fetched .given .1
+  is = sym (c .before .before .before .before .fetch .ensures) ∙ c .before .before .fetched .given .1
 
-  permitted : (b : Bool) → c .permits .result ≡ b → permitsOf (opcodeOf code) (c .before .before .fetched .given .0 .0) ≡ b
+  permitted : (b : Bool) → c .permits .result ≡ b
+      → permitsOf (shapeOf (opcodeOf (getD (now (start at-fetch .args .bytes)) (head at-fetch .loop .at) 0)))
+      (c .before .before .fetched .given .0 .0) ≡ b
   permitted b e =
       let z = c .before .before .fetched .given .0 .0 in
-      ap (λ n. permitsOf (opcodeOf n) z) (sym (at-fetch .before .wide .ensures))
+      ap (λ x. permitsOf x z) (sym (shape at-fetch))
       ∙ sym (rw (back-ok z (c .before .known-told .given .0 .1)) at (c .permits .ensures))
       ∙ e
 
@@ -86,21 +91,23 @@ loop-again c =
 
 returns-2 : tie.Need-returns-2 Inv-loop μ-loop
 returns-2 c =
-    let f = at-fetch (c .before) in
-    invariant-outside (now (start f .args .bytes)) (head f .loop .at) (head f .loop .count) (head f .loop .inv) (taken f) (more f) _ _
-    (is (c .before)) (permitted (c .before) _ (c .if2 .left))
+    let p = c .before .before in
+    let f = at-fetch p in
+    rw (c .check-of .ensures, shape f)
+    (invariant-outside (now (start f .args .bytes)) (head f .loop .at) (head f .loop .count) (head f .loop .inv) (taken f) (more f) _ _
+    (is p) (permitted p _ (c .before .if2 .left)))
 
 returns-3 : tie.Need-returns-3 Inv-loop μ-loop
 returns-3 c =
-    let f = c .before .before in
+    let f = c .before .before .before in
     invariant-unknown (now (start f .args .bytes)) (head f .loop .at) (head f .loop .count) (head f .loop .inv) (taken f) (more f)
-    (sym (f .fetch .ensures) ∙ c .enum-told .given .1)
+    (sym (c .before .before .fetch .ensures) ∙ c .enum-told .given .1)
 
 returns-4 : tie.Need-returns-4 Inv-loop μ-loop
 returns-4 c =
-    let f = c .before .before in
+    let f = c .before .before .before in
     invariant-cut (now (start f .args .bytes)) (head f .loop .at) (head f .loop .count) (head f .loop .inv) (taken f) (more f)
-    (sym (f .fetch .ensures) ∙ c .enum-told2 .given .1)
+    (sym (c .before .before .fetch .ensures) ∙ c .enum-told2 .given .1)
 
 returns-5 : tie.Need-returns-5 Inv-loop μ-loop
 returns-5 c =
@@ -118,11 +125,13 @@ check-spec =
     (λ c. search needs)
     (λ c κs. search needs)
     (λ c κs. search needs)
+    fetch-requires
     (λ c. search needs)
     (λ c κs. search needs)
     add-count
     loop-less
     loop-again
+    (λ c κs. search needs)
     returns-2
     (λ c. search needs)
     returns-3

@@ -1,4 +1,4 @@
--- `program::fetch` meets its contract: by the shape, the operand is a field of eight or two bytes or a page, or there is none.
+-- `program::fetch` meets its contract: by the shape, the operand is a field of eight or two bytes, a page or two counts, or there is none.
 -- Assumes nothing.
 use mathlib.Core.Path.{_≡_, _∙_, sym, ap}
 use denote.Ref.{now}
@@ -13,59 +13,58 @@ use borrow.Author.Needs.{needs}
 use Rattle.program.proofs.fetch.Statement.{statement}
 use Rattle.program.proofs.fetch.Tie as tie
 
--- the shape of the code that was read
-module _ (c : tie.After-shape-of) where
+-- the operand of the code
+module _ (c : tie.After-known-told) (x : Operand) (e : c .before .shape .given .0 .0 ≡ x) where
   abbrev start : tie.Start
   start = c .before .before .before .before
-
-  told : (x : Shape) → c .shape-of .result ≡ x → shapeOf (opcodeOf (getD (now (start .args .bytes)) (start .args .at) 0)) ≡ x
-  told x e = ap (λ n. shapeOf (opcodeOf n)) (sym (c .before .wide .ensures)) ∙ sym (c .shape-of .ensures) ∙ e
-
--- and its operand
-module _ (c : tie.After-known-told) (x : Operand) (e : c .before .shape .given .0 .0 ≡ x) where
-  abbrev read : tie.After-shape-of
-  read = c .before .before .before
 
   abbrev of : Operand → Shape
   of y = let more = c .before .shape .given .0 .1 in Of y (more .0) (more .1 .0) (more .1 .1 .0)
 
-  of-operand : shapeOf (opcodeOf (getD (now (start read .args .bytes)) (start read .args .at) 0)) ≡ of x
-  of-operand = told read (of x) (c .before .shape .given .1 ∙ ap of e)
+  of-operand : shapeOf (opcodeOf (getD (now (start .args .bytes)) (start .args .at) 0)) ≡ of x
+  of-operand = sym (start .pre .1) ∙ c .before .shape .given .1 ∙ ap of e
 
 returns : tie.Need-returns
 returns c =
     let o = c .before .before .before .before in
     let t = o .before .before in
-    let a = start (read t _ (o .operand .given .1)) .args in
-    rw (c .with-field .ensures, c .before .i64-at .ensures)
+    let a = start t _ (o .operand .given .1) .args in
+    rw (c .with-field .ensures, c .before .long-at .ensures)
     (fetch-signed (now (a .bytes)) (a .at) _ _ _ _ (of-operand t _ (o .operand .given .1)) 8 (c .before .before .if1 .taken))
 
 returns-2 : tie.Need-returns-2
 returns-2 c =
     let o = c .before .before .before .before .before in
     let t = o .before .before in
-    let a = start (read t _ (o .operand .given .1)) .args in
+    let a = start t _ (o .operand .given .1) .args in
     rw (c .with-field2 .ensures, c .before .i16-at .ensures)
     (fetch-signed (now (a .bytes)) (a .at) _ _ _ _ (of-operand t _ (o .operand .given .1)) 2 (c .before .before .if2 .taken))
 
 returns-3 : tie.Need-returns-3
 returns-3 c =
-    let a = start (c .before .before) .args in
-    fetch-unknown (now (a .bytes)) (a .at) (told (c .before .before) _ (c .enum-told .given .1))
+    let s = c .before .before .before in
+    fetch-unknown (now (s .args .bytes)) (s .args .at) (sym (s .pre .1) ∙ c .enum-told .given .1)
 
 returns-4 : tie.Need-returns-4
 returns-4 c =
     let o = c .before in
     let t = o .before .before in
-    let a = start (read t _ (o .enum-told2 .given .1)) .args in
+    let a = start t _ (o .enum-told2 .given .1) .args in
     rw (c .page-at .ensures) (fetch-field (now (a .bytes)) (a .at) _ _ _ _ (of-operand t _ (o .enum-told2 .given .1)))
 
 returns-5 : tie.Need-returns-5
 returns-5 c =
+    let o = c .before in
+    let t = o .before .before in
+    let a = start t _ (o .enum-told3 .given .1) .args in
+    rw (c .counts-at .ensures) (fetch-field (now (a .bytes)) (a .at) _ _ _ _ (of-operand t _ (o .enum-told3 .given .1)))
+
+returns-6 : tie.Need-returns-6
+returns-6 c =
     let o = c .before .before .before in
     let t = o .before .before in
-    let s = start (read t _ (o .operand .given .1)) in
-    fetch-plain (now (s .args .bytes)) (s .args .at) _ _ _ _ (of-operand t _ (o .operand .given .1)) (s .pre) (c .before .if1 .left)
+    let s = start t _ (o .operand .given .1) in
+    fetch-plain (now (s .args .bytes)) (s .args .at) _ _ _ _ (of-operand t _ (o .operand .given .1)) (s .pre .0) (c .before .if1 .left)
     (c .if2 .left)
 
 pub fetch-spec : {M : Type 1} → statement M
@@ -74,10 +73,9 @@ fetch-spec =
     (tie.spec
     (λ c. search needs)
     (λ c. search needs)
-    (λ c κs. search needs)
-    (λ c κs. search needs)
     (λ c. search needs)
     (λ c. search needs)
+    (λ c κs. search needs)
     (λ c. search needs)
     (λ c κs. search needs)
     (λ c. search needs)
@@ -91,4 +89,5 @@ fetch-spec =
     returns-2
     returns-3
     returns-4
-    returns-5)
+    returns-5
+    returns-6)

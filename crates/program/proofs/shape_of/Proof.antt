@@ -2,6 +2,7 @@
 -- Assumes nothing.
 use mathlib.Core.Path.{_≡_}
 use Rattle.program.specs.Command.{Opcode, opcodeOf, codeOf, add, sub, pop, output, push, load, store, jump, bnz, call, ret, outputTo}
+use Rattle.program.specs.Command.{callN, retV}
 use Rattle.program.proofs.Codes.{opcodeOf-none}
 use Rattle.program.proofs.shape_of.Statement.{statement}
 use Rattle.program.proofs.shape_of.Tie as tie
@@ -55,21 +56,31 @@ unfolding opcodeOf
 returns-12 c = rw (c .match .keys12)
 
 returns-13 : tie.Need-returns-13
-returns-13 c = rw (opcodeOf-none (c .before .args .code) other)
+unfolding opcodeOf
+returns-13 c = rw (c .match .keys13)
+
+returns-14 : tie.Need-returns-14
+unfolding opcodeOf
+returns-14 c = rw (c .match .keys14)
+
+returns-15 : tie.Need-returns-15
+returns-15 c = rw (opcodeOf-none (c .before .args .code) other)
   where
     other : (o : Opcode) → c .before .args .code ≡ codeOf o → ⊥
-    other add = c .match .rest .0 .0 .0 .0 .0 .0 .0 .0 .0 .0 .0 .1
-    other sub = c .match .rest .0 .0 .0 .0 .0 .0 .0 .0 .0 .0 .1
-    other pop = c .match .rest .0 .0 .0 .0 .0 .0 .0 .0 .0 .1
-    other output = c .match .rest .0 .0 .0 .0 .0 .0 .0 .0 .1
-    other push = c .match .rest .0 .0 .0 .0 .0 .0 .0 .1
-    other load = c .match .rest .0 .0 .0 .0 .0 .0 .1
-    other store = c .match .rest .0 .0 .0 .0 .0 .1
-    other jump = c .match .rest .0 .0 .0 .0 .1
-    other bnz = c .match .rest .0 .0 .0 .1
-    other call = c .match .rest .0 .0 .1
-    other ret = c .match .rest .0 .1
-    other outputTo = c .match .rest .1
+    other add = c .match .rest .0 .0 .0 .0 .0 .0 .0 .0 .0 .0 .0 .0 .0 .1
+    other sub = c .match .rest .0 .0 .0 .0 .0 .0 .0 .0 .0 .0 .0 .0 .1
+    other pop = c .match .rest .0 .0 .0 .0 .0 .0 .0 .0 .0 .0 .0 .1
+    other output = c .match .rest .0 .0 .0 .0 .0 .0 .0 .0 .0 .0 .1
+    other push = c .match .rest .0 .0 .0 .0 .0 .0 .0 .0 .0 .1
+    other load = c .match .rest .0 .0 .0 .0 .0 .0 .0 .0 .1
+    other store = c .match .rest .0 .0 .0 .0 .0 .0 .0 .1
+    other jump = c .match .rest .0 .0 .0 .0 .0 .0 .1
+    other bnz = c .match .rest .0 .0 .0 .0 .0 .1
+    other call = c .match .rest .0 .0 .0 .0 .1
+    other ret = c .match .rest .0 .0 .0 .1
+    other outputTo = c .match .rest .0 .0 .1
+    other callN = c .match .rest .0 .1
+    other retV = c .match .rest .1
 
 pub shape-of-spec : {M : Type 1} → statement M
 shape-of-spec =
@@ -87,4 +98,6 @@ shape-of-spec =
     returns-10
     returns-11
     returns-12
-    returns-13)
+    returns-13
+    returns-14
+    returns-15)

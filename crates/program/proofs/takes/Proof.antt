@@ -1,4 +1,5 @@
--- `program::takes` meets its contract: by the shape, the range is that of eight or of two bytes, or of a page, or there is none.
+-- `program::takes` meets its contract: by the shape, the range is that of eight or of two bytes, of a page or of two counts, or there
+-- is none.
 -- Assumes nothing.
 use mathlib.Core.Path.{_≡_, _∙_, sym, subst}
 use Prim.Native.Nat.{_^_}
@@ -62,6 +63,12 @@ returns-5 c =
 
 returns-6 : tie.Need-returns-6
 returns-6 c =
+    let t = c .before .before .before in
+    let s = start t _ (c .before .enum-told3 .given .1) in
+    rw (range t _ (c .before .enum-told3 .given .1)) (rw (back (s .fits .number)) at (c .is-counts .ensures))
+
+returns-7 : tie.Need-returns-7
+returns-7 c =
     let o = c .before .before .before in
     let t = o .before .before in
     let s = start t _ (o .operand .given .1) in
@@ -78,9 +85,12 @@ takes-spec =
     (λ c. search needs)
     (λ c κs. search needs)
     (λ c. search needs)
+    (λ c κs. search needs)
+    (λ c. search needs)
     returns
     returns-2
     returns-3
     returns-4
     returns-5
-    returns-6)
+    returns-6
+    returns-7)

@@ -2,7 +2,7 @@
 -- The measure is what is left of the bytes. Assumes nothing.
 use borrow.Author.Needs.{needs}
 use native.Mathlib.Omega.{arith}
-use mathlib.Core.Path.{_≡_, _∙_, sym}
+use mathlib.Core.Path.{_≡_, _∙_, sym, ap}
 use Prim.Native.Nat.{_+_, _*_, _-_, _<_, _≤_, _^_}
 use denote.Ref.{now}
 use lib.ListN.{length, length-set}
@@ -10,7 +10,8 @@ use mir.Syntax.{w64}
 use mir.Facts.{toZ-pos}
 use Rattle.word.proofs.Signed.{back-ok}
 use Rattle.program.specs.declared.Fetched.the-variants.{Is}
-use Rattle.program.specs.Fetch.{fetchOf}
+use Rattle.program.specs.Command.{opcodeOf}
+use Rattle.program.specs.Fetch.{shapeOf, fetchOf}
 use Rattle.program.proofs.Loading.{Writing, writing-start, writing-end, writing-full, writing-unknown, writing-cut}
 use Rattle.program.proofs.Loading.{writing-forward, writing-next}
 use Rattle.program.proofs.write.Statement.{statement}
@@ -37,11 +38,8 @@ returns c = writing-full _ _ _ _ _ (c .before .before .loop .inv) (c .if1 .taken
 shared-slice-read-wide : tie.Need-shared-slice-read-wide Inv-loop μ-loop
 shared-slice-read-wide c = c .before .before .loop-test .taken
 
-fetch-requires : tie.Need-fetch-requires Inv-loop μ-loop
-fetch-requires c κs = c .before .before .before .loop-test .taken
-
--- a command was fetched, or none
-module _ (f : tie.After-fetch Inv-loop μ-loop) where
+-- the shape of the code that stands there
+module _ (f : tie.After-shape-of Inv-loop μ-loop) where
   abbrev head : tie.At-loop Inv-loop μ-loop
   head = f .before .before .before .before .before
 
@@ -61,20 +59,23 @@ module _ (f : tie.After-fetch Inv-loop μ-loop) where
   byte : f .before .wide .result < 256
   byte = omega (arith, f .before .wide .ensures, f .before .before .shared-slice-known2 .given (head .loop .at))
 
+fetch-requires : tie.Need-fetch-requires Inv-loop μ-loop
+fetch-requires c κs = (taken c, c .shape-of .ensures ∙ ap (λ n. shapeOf (opcodeOf n)) (c .before .wide .ensures))
+
 -- a command was fetched
 module _ (c : tie.After-known-told Inv-loop μ-loop) where
-  abbrev at-fetch : tie.After-fetch Inv-loop μ-loop
-  at-fetch = c .before .before .before
+  abbrev at-fetch : tie.After-shape-of Inv-loop μ-loop
+  at-fetch = c .before .before .before .before
 
   is : fetchOf (now (start at-fetch .args .bytes)) (head at-fetch .loop .at)
       ≡ Is (c .before .fetched .given .0 .0) (c .before .fetched .given .0 .1 .0)
-  is = sym (at-fetch .fetch .ensures) ∙ c .before .fetched .given .1
+  is = sym (c .before .before .before .fetch .ensures) ∙ c .before .fetched .given .1
 
 cast-space : tie.Need-cast-space Inv-loop μ-loop
 cast-space c = record { sfits = omega (arith, byte (at-fetch c)) }
 
-mul-t15 : tie.Need-mul-t15 Inv-loop μ-loop
-mul-t15 c = record { fits = omega (arith, small (at-fetch c)) }
+mul-t16 : tie.Need-mul-t16 Inv-loop μ-loop
+mul-t16 c = record { fits = omega (arith, small (at-fetch c)) }
 
 slice-set-from-space : tie.Need-slice-set-from-space Inv-loop μ-loop
 slice-set-from-space c = omega (arith, free (at-fetch c))
@@ -106,13 +107,13 @@ loop-again c =
 
 returns-2 : tie.Need-returns-2 Inv-loop μ-loop
 returns-2 c =
-    let f = c .before .before in
-    writing-unknown _ _ _ _ _ (head f .loop .inv) (taken f) (free f) (sym (f .fetch .ensures) ∙ c .enum-told .given .1)
+    let f = c .before .before .before in
+    writing-unknown _ _ _ _ _ (head f .loop .inv) (taken f) (free f) (sym (c .before .before .fetch .ensures) ∙ c .enum-told .given .1)
 
 returns-3 : tie.Need-returns-3 Inv-loop μ-loop
 returns-3 c =
-    let f = c .before .before in
-    writing-cut _ _ _ _ _ (head f .loop .inv) (taken f) (free f) (sym (f .fetch .ensures) ∙ c .enum-told2 .given .1)
+    let f = c .before .before .before in
+    writing-cut _ _ _ _ _ (head f .loop .inv) (taken f) (free f) (sym (c .before .before .fetch .ensures) ∙ c .enum-told2 .given .1)
 
 same-length-4 : tie.Need-same-length-4 Inv-loop μ-loop
 same-length-4 c = c .before .loop .inv .same
@@ -132,10 +133,11 @@ write-spec =
     returns
     shared-slice-read-wide
     (λ c κs. search needs)
+    (λ c κs. search needs)
     fetch-requires
     (λ c. search needs)
     cast-space
-    mul-t15
+    mul-t16
     slice-set-from-space
     add-operand
     mul-operand
@@ -144,10 +146,10 @@ write-spec =
     loop-less
     loop-again
     (λ c. search needs)
-    (λ c. head (c .before .before) .loop .inv .same)
+    (λ c. head (c .before .before .before) .loop .inv .same)
     returns-2
     (λ c. search needs)
-    (λ c. head (c .before .before) .loop .inv .same)
+    (λ c. head (c .before .before .before) .loop .inv .same)
     returns-3
     same-length-4
     returns-4)

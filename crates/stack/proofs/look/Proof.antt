@@ -4,7 +4,7 @@ use mathlib.Core.Path.{refl}
 use borrow.Author.Tests.{le-leb, lt-leb, lt-ltb, le-ltb}
 use Rattle.word.proofs.Signed.{back-ok}
 use Rattle.stack.specs.Words.{slotAt, entryAt}
-use Rattle.stack.proofs.Kind.{kind-value, kind-frame}
+use Rattle.stack.proofs.Kind.{kind-value, kind-owing, kind-frame}
 use Rattle.stack.proofs.Entry.{slot-entry}
 use borrow.Author.Needs.{needs}
 use Rattle.stack.proofs.look.Statement.{statement}
@@ -48,7 +48,7 @@ returns-4 c =
 returns-5 : tie.Need-returns-5
 unfolding entryAt
 returns-5 c =
-    let at-low = c .before .before in
+    let at-low = c .before .before .before in
     let at-number = at-low .before in
     let at-kind = at-number .before in
     let at-if3 = at-kind .before in
@@ -56,9 +56,25 @@ returns-5 c =
     rw (
       slot-entry _ _ _ _ (at-if2 .before .if1 .left) (at-if2 .if2 .left) (at-if3 .if3 .left) refl,
       back-ok _ (at-number .number .given),
-      c .before .low .ensures,
+      c .before .before .low .ensures,
       back-ok _ (at-low .low-arg .given),
-      kind-frame _ (c .if4 .left),
+      kind-owing _ (at-kind .kind .given) (c .if5 .taken),
+    )
+
+returns-6 : tie.Need-returns-6
+unfolding entryAt
+returns-6 c =
+    let at-low = c .before .before .before in
+    let at-number = at-low .before in
+    let at-kind = at-number .before in
+    let at-if3 = at-kind .before in
+    let at-if2 = at-if3 .before in
+    rw (
+      slot-entry _ _ _ _ (at-if2 .before .if1 .left) (at-if2 .if2 .left) (at-if3 .if3 .left) refl,
+      back-ok _ (at-number .number .given),
+      c .before .before .low .ensures,
+      back-ok _ (at-low .low-arg .given),
+      kind-frame _ (c .before .if4 .left) (c .if5 .left),
     )
 
 pub look-spec : {M : Type 1} → statement M
@@ -84,4 +100,5 @@ look-spec =
     (λ c. search needs)
     (λ c κs. search needs)
     returns-4
-    returns-5)
+    returns-5
+    returns-6)

@@ -31,14 +31,16 @@ loop-less c = omega arith
 loop-again : tie.Need-loop-again Inv-loop μ-loop
 loop-again c =
     let r = c .before .before .before in
-    checking-next _ _ _ (r .before .before .loop .inv) _ (r .before .loop-test .taken) _ _
-    (rw (c .before .rule .given .1) at (r .read-rule .ensures))
+    let k = r .before in
+    checking-next _ _ _ (k .before .before .loop .inv) _ (k .before .loop-test .taken) _ _
+    (rw (k .owner .ensures, c .before .rule .given .1) at (r .read-rule .ensures))
 
 returns-2 : tie.Need-returns-2 Inv-loop μ-loop
 returns-2 c =
     let r = c .before .before .before in
-    checking-fault _ _ _ (r .before .before .loop .inv) _ (r .before .loop-test .taken) _
-    (rw (c .before .rule2 .given .1) at (r .read-rule .ensures))
+    let k = r .before in
+    checking-fault _ _ _ (k .before .before .loop .inv) _ (k .before .loop-test .taken) _
+    (rw (k .owner .ensures, c .before .rule2 .given .1) at (r .read-rule .ensures))
 
 returns-3 : tie.Need-returns-3 Inv-loop μ-loop
 returns-3 c = checking-left-over _ _ _ (c .before .before .loop .inv) (c .before .loop-test .left) (c .if2 .taken)
@@ -54,7 +56,7 @@ check-table-spec =
     μ-loop
     returns
     loop-holds
-    (λ c. search needs)
+    (λ c κs. search needs)
     read-rule-requires
     (λ c. search needs)
     (λ c. search needs)

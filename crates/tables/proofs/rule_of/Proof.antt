@@ -26,16 +26,16 @@ loop-less c = omega arith
 loop-again : tie.Need-loop-again Inv-loop μ-loop
 loop-again c =
     let r = c .before .before .before in
-    let l = r .before .before in
-    passing-next _ _ _ _ _ (l .loop .inv) _ _ (rw (c .before .rule .given .1) at (r .read-rule .ensures)) (r .before .loop-test .taken)
+    let k = r .before in
+    passing-next _ _ _ _ _ (k .before .before .loop .inv) _ _
+    (rw (k .owner .ensures, c .before .rule .given .1) at (r .read-rule .ensures)) (k .before .loop-test .taken)
 
 returns : tie.Need-returns Inv-loop μ-loop
 returns c =
     let r = c .before .before in
-    absurd (passing-whole _ _ _ _ _ (r .before .before .loop .inv) _ (rw (c .enum-told .given .1) at (r .read-rule .ensures)))
-
-add-read-rule-2 : tie.Need-add-read-rule-2 Inv-loop μ-loop
-add-read-rule-2 c = let p = c .before .loop .inv in omega (arith, p .before, p .few)
+    let k = r .before in
+    absurd (passing-whole _ _ _ _ _ (k .before .before .loop .inv) _
+    (rw (k .owner .ensures, c .enum-told .given .1) at (r .read-rule .ensures)))
 
 read-rule-requires-2 : tie.Need-read-rule-requires-2 Inv-loop μ-loop
 read-rule-requires-2 c κs = tt
@@ -43,13 +43,16 @@ read-rule-requires-2 c κs = tt
 returns-2 : tie.Need-returns-2 Inv-loop μ-loop
 returns-2 c =
     let r = c .before .before .before in
-    passing-said _ _ _ _ _ (r .before .before .loop .inv) _ _ (rw (c .before .rule2 .given .1) at (r .read-rule2 .ensures))
-    (r .before .loop-test .left)
+    let k = r .before in
+    passing-said _ _ _ _ _ (k .before .before .loop .inv) _ _
+    (rw (k .owner2 .ensures, c .before .rule2 .given .1) at (r .read-rule2 .ensures)) (k .before .loop-test .left)
 
 returns-3 : tie.Need-returns-3 Inv-loop μ-loop
 returns-3 c =
     let r = c .before .before in
-    absurd (passing-whole _ _ _ _ _ (r .before .before .loop .inv) _ (rw (c .enum-told2 .given .1) at (r .read-rule2 .ensures)))
+    let k = r .before in
+    absurd (passing-whole _ _ _ _ _ (k .before .before .loop .inv) _
+    (rw (k .owner2 .ensures, c .enum-told2 .given .1) at (r .read-rule2 .ensures)))
 
 pub rule-of-spec : {M : Type 1} → statement M
 rule-of-spec =
@@ -58,7 +61,7 @@ rule-of-spec =
     Inv-loop
     μ-loop
     loop-holds
-    (λ c. search needs)
+    (λ c κs. search needs)
     read-rule-requires
     (λ c. search needs)
     (λ c. search needs)
@@ -66,7 +69,7 @@ rule-of-spec =
     loop-again
     (λ c. search needs)
     returns
-    add-read-rule-2
+    (λ c κs. search needs)
     read-rule-requires-2
     (λ c. search needs)
     (λ c. search needs)

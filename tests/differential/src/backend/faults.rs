@@ -79,7 +79,7 @@ pub enum Fault {
     OutputToRowTaken,
     /// A rule memory with a row of OutputTo is refused.
     OutputToRowRefused,
-    /// A rule memory with the code after OutputTo's is accepted, as Output's row.
+    /// A rule memory with the code after RetV's is accepted, as Output's row.
     NextRowAccepted,
     /// A cut OutputTo is refused by 12.
     PageBeforeCut,
@@ -155,10 +155,102 @@ pub enum Fault {
     ClearancesCountedLast,
     /// The place of refusal 13 for another number of clearances than sixteen is that number.
     ClearancesCounted,
+    /// Ret is accepted on a frame that owes a result.
+    RetOnResult,
+    /// RetV is accepted on a frame that owes none.
+    RetVOnNone,
+    /// RetV takes the next frame that owes a result, whatever stands over it.
+    RetVReachesDown,
+    /// Stop 11 before 4: a value under RetV's is taken for a frame that owes none.
+    ResultsBeforeFrame,
+    /// Stop 4 before 3, at RetV.
+    FrameBeforeValue,
+    /// Stop 11 before 3, at RetV.
+    ResultsBeforeValue,
+    /// Stop 11 after the rule is asked, and after 6.
+    ResultsAfterRule,
+    /// A frame is taken for an argument.
+    FrameAsArgument,
+    /// The last argument need not be there.
+    ArgumentMissing,
+    /// A frame is taken for a CallN's target.
+    TargetIsFrame,
+    /// Arguments come to stand above the frame in reverse order.
+    ArgumentsReversed,
+    /// One argument too few stays above the frame.
+    ArgumentTooFew,
+    /// One value too many stays above the frame.
+    ArgumentTooMany,
+    /// The frame goes above the arguments.
+    FrameOnTop,
+    /// A CallN's frame has the label of the place that it goes to.
+    FrameRaised,
+    /// A CallN's frame has the place of the call.
+    FrameBack,
+    /// An old Call's frame owes a result.
+    CallOwes,
+    /// The kind word of a frame that owes a result is 1.
+    KindOneForBoth,
+    /// The kind word of a frame that owes none is 2.
+    KindTwoForAll,
+    /// RetV's label leaves out P.
+    RetVWithoutPlace,
+    /// RetV goes on at P.
+    RetVKeepsPlace,
+    /// RetV goes on at L1+L2.
+    RetVPlaceOfBoth,
+    /// RetV is under Ret's rule.
+    RetVUnderRet,
+    /// RetV drops its value too.
+    RetVDropsValue,
+    /// RetV leaves its frame under the value.
+    RetVKeepsFrame,
+    /// RetV leaves its result in the old top entry too.
+    TopLeft,
+    /// RetV clears the old top entry.
+    TopCleared,
+    /// RetV leaves its result in the old top entry alone, and the frame's entry as it was.
+    ResultAbove,
+    /// The operand word is 16 times the second operand plus the first.
+    OperandsSwapped,
+    /// 16 arguments are accepted.
+    SixteenArguments,
+    /// 15 arguments are refused.
+    FifteenRefused,
+    /// 2 results are accepted.
+    TwoResults,
+    /// Operands are checked by their word: 00 10 is accepted, as 1 0.
+    OperandsPacked,
+    /// Operands of a CallN are read as signed: those over 127 are below 0, and accepted.
+    OperandsSigned,
+    /// The first operand of a CallN is not checked.
+    FirstUnchecked,
+    /// The second operand of a CallN is not checked.
+    SecondUnchecked,
+    /// Refusal 14 has the operand's offset.
+    CallOffset,
+    /// A CallN out of range is refused by 12.
+    CallAsPage,
+    /// A CallN whose first operand is over 15 is refused by 14 where the second is cut.
+    CallBeforeCut,
+    /// Operands of CallN are checked when all commands have passed the other checks.
+    CallCheckedLast,
+    /// CallN has Call's code in the rule memory.
+    CallNAsCall,
+    /// A row of Call is taken for CallN.
+    CallRowTaken,
+    /// A row of CallN is taken for Call.
+    CallNRowTaken,
+    /// A rule memory with a row of CallN is refused.
+    CallNRowRefused,
+    /// A rule memory with a row of RetV is refused.
+    RetVRowRefused,
+    /// A table without RetV's rule is accepted, with the standard one.
+    OldTableAccepted,
 }
 
 /// Each of them once.
-pub static FAULTS: [Fault; 76] = [
+pub static FAULTS: [Fault; 122] = [
     Fault::OutputWithoutPlace,
     Fault::BranchWithoutPlace,
     Fault::StoreOnNewLabel,
@@ -235,10 +327,65 @@ pub static FAULTS: [Fault; 76] = [
     Fault::ManyClearances,
     Fault::ClearancesCountedLast,
     Fault::ClearancesCounted,
+    Fault::RetOnResult,
+    Fault::RetVOnNone,
+    Fault::RetVReachesDown,
+    Fault::ResultsBeforeFrame,
+    Fault::FrameBeforeValue,
+    Fault::ResultsBeforeValue,
+    Fault::ResultsAfterRule,
+    Fault::FrameAsArgument,
+    Fault::ArgumentMissing,
+    Fault::TargetIsFrame,
+    Fault::ArgumentsReversed,
+    Fault::ArgumentTooFew,
+    Fault::ArgumentTooMany,
+    Fault::FrameOnTop,
+    Fault::FrameRaised,
+    Fault::FrameBack,
+    Fault::CallOwes,
+    Fault::KindOneForBoth,
+    Fault::KindTwoForAll,
+    Fault::RetVWithoutPlace,
+    Fault::RetVKeepsPlace,
+    Fault::RetVPlaceOfBoth,
+    Fault::RetVUnderRet,
+    Fault::RetVDropsValue,
+    Fault::RetVKeepsFrame,
+    Fault::TopLeft,
+    Fault::TopCleared,
+    Fault::ResultAbove,
+    Fault::OperandsSwapped,
+    Fault::SixteenArguments,
+    Fault::FifteenRefused,
+    Fault::TwoResults,
+    Fault::OperandsPacked,
+    Fault::OperandsSigned,
+    Fault::FirstUnchecked,
+    Fault::SecondUnchecked,
+    Fault::CallOffset,
+    Fault::CallAsPage,
+    Fault::CallBeforeCut,
+    Fault::CallCheckedLast,
+    Fault::CallNAsCall,
+    Fault::CallRowTaken,
+    Fault::CallNRowTaken,
+    Fault::CallNRowRefused,
+    Fault::RetVRowRefused,
+    Fault::OldTableAccepted,
 ];
+
+/// Where this one stands among them.
+fn index(of: Fault) -> usize {
+    FAULTS.iter().position(|&fault| fault == of).expect("it is one of them")
+}
 
 /// Those that are in what either engine makes of clearances.
 pub fn of_clearances() -> &'static [Fault] {
-    let first = FAULTS.iter().position(|&fault| fault == Fault::UnclearedLeftOut);
-    &FAULTS[first.expect("it is one of them")..]
+    &FAULTS[index(Fault::UnclearedLeftOut)..index(Fault::RetOnResult)]
+}
+
+/// Those that are in what either engine makes of calls that bring something back.
+pub fn of_calls() -> &'static [Fault] {
+    &FAULTS[index(Fault::RetOnResult)..]
 }

@@ -1,17 +1,18 @@
 //! The model with one deliberate fault, on which the tests are tried.
 
+mod calls;
 mod clearances;
 
 use self::clearances::Asked;
-use super::faults::Fault;
-use super::{fits, model_page, page_from, put_page, sample, Answer, Backend, Itself, PAGE_LIMIT};
+use super::faults::{of_calls, Fault};
+use super::{fits, model_page, page_from, put_page, Answer, Backend, Itself, PAGE_LIMIT};
 use model::engine::{judged, tagged, Handler, Lent, Report};
 use model::kernel;
-use model::machine::{whole, Judge, Kind, Line, Pages, Stop};
+use model::machine::{whole, Entry, Judge, Kind, Line, Machine, Pages, Stack, Stop};
 use model::page::{page, printed, read};
 use model::rules::{standard, Labels, Question, RuleMemory, Table};
 use model::sheet::{decode, Command};
-use model::{flows, Label, Refusal};
+use model::{flows, Atom, Label, Refusal};
 
 /// The model with one fault.
 pub struct Faulty(pub Fault);
@@ -31,6 +32,11 @@ impl Faulty {
                 flows(input(0) | question.place, result).then_some(Labels { place: question.place, result })
             }
             (Fault::RetKeepsPlace, 0x0b) => Some(Labels { place: input(0) | question.place, ..right? }),
+            (Fault::RetVWithoutPlace, 0x0e) => Some(Labels { result: input(0), ..right? }),
+            (Fault::RetVKeepsPlace, 0x0e) => Some(Labels { place: question.place, ..right? }),
+            (Fault::RetVPlaceOfBoth, 0x0e) => Some(Labels { place: input(0) | input(1), ..right? }),
+            (Fault::RetVUnderRet, 0x0e) => Some(Labels { place: input(0), result: 0 }),
+            (Fault::FrameRaised, 0x0d) => Some(Labels { result: input(0) | question.place, ..right? }),
             _ => right,
         }
     }
@@ -38,7 +44,10 @@ impl Faulty {
     /// What the check of a sheet comes to: the sheet that is run in its place, or the refusal.
     fn check(&self, sheet: &[u8]) -> Result<Vec<u8>, Refusal> {
         let mut sheet = sheet.to_vec();
-        let mut page = None;
+        let mut last = None;
+        if let Some(refusal) = self.0.refuses(&sheet) {
+            return Err(refusal);
+        }
         while let Err(refusal) = decode(&sheet) {
             let at = refusal.place as usize;
             match (self.0, refusal.number) {
@@ -47,13 +56,21 @@ impl Faulty {
                 (Fault::PageSixteen, 12) if sheet[at + 1] == 16 => sheet[at + 1] = 15,
                 (Fault::PageSigned, 12) if sheet[at + 1] > 127 => sheet[at + 1] = 0,
                 (Fault::PageCheckedLast, 12) => {
-                    page.get_or_insert(refusal);
+                    last.get_or_insert(refusal);
                     sheet[at + 1] = 0;
                 }
+                (Fault::CallCheckedLast, 14) => {
+                    last.get_or_insert(refusal);
+                    sheet[at + 1..at + 3].fill(0);
+                }
+                (fault, 14) => match fault.passes([sheet[at + 1], sheet[at + 2]]) {
+                    Some(operands) => sheet[at + 1..at + 3].copy_from_slice(&operands),
+                    None => return Err(fault.refusal_of_call(at)),
+                },
                 _ => return Err(refusal),
             }
         }
-        page.map_or(Ok(sheet), Err)
+        last.map_or(Ok(sheet), Err)
     }
 
     /// Puts the fault into the page words of a run's lines, given the places of the commands that wrote them.
@@ -93,6 +110,9 @@ impl Faulty {
         let mut answer = run(lent);
         lent.kinds.truncate(kinds);
         lent.pages.truncate(pages);
+        if answer.words[0] == 0 {
+            self.0.call_words(sheet, lent);
+        }
         let sum = answer.sum(sheet, lent).map(|(_, whole)| whole).filter(|&whole| !fits(whole));
         let [refusal, _, stop, steps, pc, label, depth, lines, _, _] = &mut answer.words;
         if *refusal != 0 {
@@ -139,25 +159,26 @@ impl Faulty {
 }
 
 impl Fault {
-    /// Whether the fault is in what becomes of lines, or in what the rule memory holds of OutputTo.
+    /// Whether the fault is in what becomes of lines, calls and returns, or in what the rule memory holds.
     fn is_of_rows(self) -> bool {
-        matches!(
-            self,
-            Fault::OutputToDenied
-                | Fault::OutputToAsOutput
-                | Fault::OutputRowTaken
-                | Fault::OutputToRowTaken
-                | Fault::UnclearedLeftOut
-                | Fault::ClearanceOfPageZero
-                | Fault::ClearanceBackwards
-                | Fault::ClearedWithoutPlace
-                | Fault::PageZeroUncleared
-                | Fault::MatchUncleared
-                | Fault::FullBeforeCleared
-                | Fault::EndFullBeforeCleared
-                | Fault::EndUncleared
-                | Fault::EndClearedByLastPage
-        )
+        of_calls().contains(&self)
+            || matches!(
+                self,
+                Fault::OutputToDenied
+                    | Fault::OutputToAsOutput
+                    | Fault::OutputRowTaken
+                    | Fault::OutputToRowTaken
+                    | Fault::UnclearedLeftOut
+                    | Fault::ClearanceOfPageZero
+                    | Fault::ClearanceBackwards
+                    | Fault::ClearedWithoutPlace
+                    | Fault::PageZeroUncleared
+                    | Fault::MatchUncleared
+                    | Fault::FullBeforeCleared
+                    | Fault::EndFullBeforeCleared
+                    | Fault::EndUncleared
+                    | Fault::EndClearedByLastPage
+            )
     }
 }
 
@@ -172,6 +193,18 @@ impl Judge for Rules {
     fn judge(&mut self, question: &Question) -> Option<Labels> {
         self.asked.input = question.inputs[0].unwrap_or(0);
         self.faulty.rule(question)
+    }
+
+    fn inputs(&mut self, machine: &Machine, command: Command) -> Result<Vec<Atom>, Stop> {
+        self.faulty.0.inputs(machine, command)
+    }
+
+    fn call(&mut self, stack: &mut Stack, command: Command, arguments: usize, frame: Entry) {
+        self.faulty.0.call(stack, command, arguments, frame);
+    }
+
+    fn bring_back(&mut self, stack: &mut Stack, result: Atom) {
+        self.faulty.0.bring_back(stack, result);
     }
 
     fn write(&mut self, pages: &mut Pages, line: Line) -> Result<(), Stop> {
@@ -198,8 +231,7 @@ impl Judge for Rules {
     }
 }
 
-/// A rule memory with the fault in what it holds of OutputTo or in what becomes of lines, before a handler that has
-/// none.
+/// A rule memory with the fault in what it holds or in what becomes of lines, calls and returns.
 struct Rows<'a> {
     fault: Fault,
     memory: RuleMemory,
@@ -216,6 +248,8 @@ impl Rows<'_> {
         let taken = match self.fault {
             Fault::OutputRowTaken => codes == [4, 12],
             Fault::OutputToRowTaken => codes == [12, 4],
+            Fault::CallRowTaken => codes == [10, 13],
+            Fault::CallNRowTaken => codes == [13, 10],
             _ => false,
         };
         (codes[0] == codes[1] || taken) && self.memory[1..5] == words[1..]
@@ -225,9 +259,11 @@ impl Rows<'_> {
 impl Judge for Rows<'_> {
     fn judge(&mut self, question: &Question) -> Option<Labels> {
         let mut words = question.words();
-        if self.fault == Fault::OutputToAsOutput && words[0] == 12 {
-            words[0] = 4;
-        }
+        words[0] = match (self.fault, words[0]) {
+            (Fault::OutputToAsOutput, 12) => 4,
+            (Fault::CallNAsCall, 13) => 10,
+            (_, code) => code,
+        };
         self.asked = Asked { input: question.inputs[0].unwrap_or(0), matched: self.matches(words) };
         if !self.asked.matched {
             self.memory[..5].copy_from_slice(&words);
@@ -241,6 +277,23 @@ impl Judge for Rows<'_> {
         }
         let label = |word| Label::try_from(word).ok();
         Some(Labels { place: label(self.memory[5])?, result: label(self.memory[6])? })
+    }
+
+    fn inputs(&mut self, machine: &Machine, command: Command) -> Result<Vec<Atom>, Stop> {
+        let inputs = self.fault.inputs(machine, command);
+        if (self.fault, &inputs) == (Fault::ResultsAfterRule, &Err(Stop::ResultsDiffer)) {
+            let question = calls::question(machine, command);
+            return Err(self.judge(&question).map_or(Stop::NotAllowed, |_| Stop::ResultsDiffer));
+        }
+        inputs
+    }
+
+    fn call(&mut self, stack: &mut Stack, command: Command, arguments: usize, frame: Entry) {
+        self.fault.call(stack, command, arguments, frame);
+    }
+
+    fn bring_back(&mut self, stack: &mut Stack, result: Atom) {
+        self.fault.bring_back(stack, result);
     }
 
     fn write(&mut self, pages: &mut Pages, line: Line) -> Result<(), Stop> {
@@ -290,10 +343,12 @@ impl Faulty {
         let code = lent.rule_memory.first().copied();
         match self.0 {
             Fault::DeniedRowAccepted if lent.rule_memory.ends_with(&[-1, -1]) => lent.rule_memory.fill(0),
-            Fault::NextRowAccepted if code == Some(13) => lent.rule_memory[0] = 4,
+            Fault::NextRowAccepted if code == Some(15) => lent.rule_memory[0] = 4,
             _ => {}
         }
-        let mut sample = sample(table);
+        let longer = self.0.table(table);
+        let table = &longer[..];
+        let mut sample = self.0.handler(table);
         if self.0 == Fault::HandlerAllows {
             sample.allow_all();
         }
@@ -318,10 +373,16 @@ impl Faulty {
             answer.words[8] += 1;
         }
         let refused = answer.words[0] != 0;
-        if self.0 == Fault::NextRowAccepted && code == Some(13) && refused {
-            lent.rule_memory[0] = 13;
+        if self.0 == Fault::NextRowAccepted && code == Some(15) && refused {
+            lent.rule_memory[0] = 15;
         }
-        if self.0 == Fault::OutputToRowRefused && code == Some(12) && !refused {
+        let no_row = match self.0 {
+            Fault::OutputToRowRefused => Some(12),
+            Fault::CallNRowRefused => Some(13),
+            Fault::RetVRowRefused => Some(14),
+            _ => None,
+        };
+        if no_row.is_some() && code == no_row && !refused {
             *lent = before;
             return Err(Refusal::new(7, 0)).into();
         }

@@ -24,6 +24,14 @@ pub struct Pairs {
     /// Pairs of which one run was stopped by an overflow, and those of them in which that cut its view short.
     pub one_overflows: u64,
     pub overflow_cuts: u64,
+    /// Pairs of which one run was stopped by results that do not match, and those of them in which that cut its view
+    /// short.
+    pub one_differs: u64,
+    pub differing_cuts: u64,
+    /// Pairs from different cells whose runs both return values from places outside the set to frames inside it, and
+    /// those of them whose views both have lines and that went different ways.
+    pub hidden_returns: u64,
+    pub returns_apart: u64,
     /// Pairs whose views both have lines of this page.
     pub pages: [u64; PAGES as usize],
     /// Pairs whose views have equally many lines of one page, and one has more of another.
@@ -53,6 +61,10 @@ impl Pairs {
             self.both_end, self.one_ends, self.hidden_ends
         );
         println!("stop 9 in one run {}, its view the shorter {}", self.one_overflows, self.overflow_cuts);
+        println!(
+            "stop 11 in one run {}, its view the shorter {}; hidden returns in both {}, with lines and different ways {}",
+            self.one_differs, self.differing_cuts, self.hidden_returns, self.returns_apart
+        );
         println!("lines of a page in both views, by page: {:?}", self.pages);
         println!("one page longer and another alike {}", self.one_page_cut);
         println!(
@@ -84,6 +96,10 @@ impl Pairs {
             ("an end outside the set", self.hidden_ends),
             ("stop 9 in one run", self.one_overflows),
             ("a view that stop 9 cut", self.overflow_cuts),
+            ("stop 11 in one run", self.one_differs),
+            ("a view that stop 11 cut", self.differing_cuts),
+            ("hidden returns in both runs", self.hidden_returns),
+            ("hidden returns, lines and different ways", self.returns_apart),
             ("one page longer and another alike", self.one_page_cut),
             ("different clearances", self.cleared_apart),
             ("stop 10 in one run", self.one_uncleared),
@@ -118,9 +134,22 @@ impl Pairs {
             self.one_overflows += 1;
             self.overflow_cuts += u64::from(cut);
         }
+        self.note_returns(pair);
         self.note_pages(pair);
         self.note_clearances(pair);
         self.note_closed(pair);
+    }
+
+    fn note_returns(&mut self, pair: &Pair) {
+        if let Some(cut) = stopped_alone(pair, Stop::ResultsDiffer) {
+            self.one_differs += 1;
+            self.differing_cuts += u64::from(cut);
+        }
+        let [one, two] = pair.runs();
+        let returns = pair.cells_differ && pair.runs().into_iter().all(|run| run.hidden_returns > 0);
+        let lines = pair.runs().into_iter().all(|run| !run.view.is_empty());
+        self.hidden_returns += u64::from(returns);
+        self.returns_apart += u64::from(returns && lines && (one.stop, one.steps) != (two.stop, two.steps));
     }
 
     fn note_pages(&mut self, pair: &Pair) {

@@ -147,7 +147,7 @@ fn refused(answer: &Answer, start: &Start, later: u64) -> [bool; 11] {
         is && count.is_lt(),
         is && count.is_gt(),
         is && count.is_ne() && bad > 0,
-        before(&[1, 2, 3, 12]),
+        before(&[1, 2, 3, 12, 14]),
         before(&[4]),
         before(&[5]),
         is && later == 8,

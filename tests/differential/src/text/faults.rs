@@ -1,8 +1,9 @@
 //! The model with one deliberate fault, on which the tests are tried.
 
+use super::tally::outside_at;
 use super::{written, Texts, Way, Written};
 use crate::backend::Itself;
-use model::sheet::{decode, encode, Command, Command::*, COMMANDS, EACH, PAGES};
+use model::sheet::{decode, encode, Command, Command::*, ARGUMENTS, COMMANDS, EACH, PAGES, RESULTS};
 use model::text::{command, lines, normal, LineFault};
 use model::Refusal;
 
@@ -33,10 +34,20 @@ pub enum Fault {
     Taken(&'static str, &'static str),
     /// Spaces at a line's end are passed over.
     TrailingSpace,
-    /// What stands after the first operand is passed over.
+    /// What stands after the operands is passed over.
     RestPassed,
     /// A missing operand is 0.
     OperandMissing,
+    /// A missing second operand is 0.
+    SecondMissing,
+    /// A CallN has one operand, its word.
+    WordTaken,
+    /// The two operands of a CallN are read the other way round.
+    SwappedRead,
+    /// Operands are tested one by one: 11 of the first goes before 10 of the second.
+    RangeAsRead,
+    /// The second operand's range is not tested.
+    SecondUnchecked,
     /// On one line 11 goes before 10.
     RangeFirst,
     /// Leading zeros are 10.
@@ -79,6 +90,28 @@ pub enum Fault {
     PageOffset,
     /// OutputTo is listed without its page.
     PageLost,
+    /// Calls whose operands are out of range are listed.
+    CallListed,
+    /// A call with 16 arguments is listed.
+    CallSixteen,
+    /// A call with 2 results is listed.
+    CallTwo,
+    /// A call is listed if its operand word is that of one.
+    CallPacked,
+    /// A call out of range is refused by 2.
+    CallAsCode,
+    /// A call out of range is refused by 12.
+    CallAsPage,
+    /// A cut CallN is refused by 14.
+    CallBeforeCut,
+    /// Refusal 14 has the operand's offset.
+    CallOffset,
+    /// CallN is listed without its second operand.
+    SecondLost,
+    /// CallN is listed with its operand word.
+    WordListed,
+    /// The two operands of a CallN are listed the other way round.
+    SwappedListed,
     /// 8 goes before the other refusals.
     ShortFirst,
     /// A buffer that fits exactly is too short.
@@ -97,7 +130,7 @@ pub enum Fault {
     RefusalLength,
 }
 
-const OF_READER: [Fault; 38] = [
+const OF_READER: [Fault; 50] = [
     Fault::LinesFromZero,
     Fault::NewlineNeeded,
     Fault::EmptyLinePassed,
@@ -136,9 +169,21 @@ const OF_READER: [Fault; 38] = [
     Fault::Passed("OutputTo -1", OutputTo(15)),
     Fault::Taken("Output ", "OutputTo "),
     Fault::Wraps,
+    Fault::Refused(CallN(0, 0)),
+    Fault::Refused(CallN(15, 1)),
+    Fault::Passed("CallN 16 1", CallN(16, 1)),
+    Fault::Passed("CallN -1 1", CallN(15, 1)),
+    Fault::Passed("CallN 2 2", CallN(2, 2)),
+    Fault::Passed("CallN 2 -1", CallN(2, 1)),
+    Fault::Taken("Call ", "CallN "),
+    Fault::SecondMissing,
+    Fault::WordTaken,
+    Fault::SwappedRead,
+    Fault::RangeAsRead,
+    Fault::SecondUnchecked,
 ];
 
-const OF_LISTER: [Fault; 14] = [
+const OF_LISTER: [Fault; 25] = [
     Fault::LimitLower,
     Fault::MinusZeroListed,
     Fault::ZerosListed,
@@ -153,6 +198,17 @@ const OF_LISTER: [Fault; 14] = [
     Fault::PageBeforeCut,
     Fault::PageOffset,
     Fault::PageLost,
+    Fault::CallListed,
+    Fault::CallSixteen,
+    Fault::CallTwo,
+    Fault::CallPacked,
+    Fault::CallAsCode,
+    Fault::CallAsPage,
+    Fault::CallBeforeCut,
+    Fault::CallOffset,
+    Fault::SecondLost,
+    Fault::WordListed,
+    Fault::SwappedListed,
 ];
 
 const OF_BOTH: [Fault; 8] = [
@@ -187,8 +243,10 @@ impl Faulty {
             Some(each) => retry(format!("{}{}", each.name(), &text[name.len()..])),
             None => right,
         };
-        let is_outside = |word: &str| retry(format!("{name} {word}")) == Err(LineFault::Outside);
-        let zero = right.is_ok_and(|command| command.operand() == Some(0));
+        let operands: Vec<&str> = text.split(' ').skip(1).collect();
+        let is_outside = |(index, word): (usize, &&str)| outside_at(name, index, word);
+        let of_call = |fault: LineFault| name == "CallN" && right == Err(fault);
+        let zero = right.is_ok_and(|command| command.operands().contains(&0));
         let zeros = operand.trim_start_matches('-').starts_with('0') && !zero;
         match self.1 {
             Fault::AnyCase => renamed(&|each| each.eq_ignore_ascii_case(name)),
@@ -196,9 +254,27 @@ impl Faulty {
             Fault::NameLonger => renamed(&|each| name.starts_with(each)),
             Fault::Taken(what, means) => retry(text.replace(what, means)),
             Fault::TrailingSpace => retry(text.trim_end_matches(' ').into()),
-            Fault::RestPassed => retry(text.splitn(3, ' ').take(2).collect::<Vec<_>>().join(" ")),
+            Fault::RestPassed => {
+                let wants = if name == "CallN" { 2 } else { 1 };
+                retry(text.split(' ').take(1 + wants).collect::<Vec<_>>().join(" "))
+            }
             Fault::OperandMissing if right.is_err() && operand.is_empty() => retry(format!("{name} 0")),
-            Fault::RangeFirst if operand.split(' ').any(is_outside) => Err(LineFault::Outside),
+            Fault::RangeFirst if operands.iter().enumerate().any(is_outside) => Err(LineFault::Outside),
+            Fault::SecondMissing if of_call(LineFault::OperandCount) => retry(format!("{text} 0")),
+            Fault::WordTaken if of_call(LineFault::OperandCount) => match operand.parse::<u8>() {
+                Ok(word) => Ok(CallN(word / 16, word % 16)),
+                Err(_) => right,
+            },
+            Fault::SwappedRead => match right {
+                Ok(CallN(arguments, results)) => Ok(CallN(results, arguments)),
+                _ => right,
+            },
+            Fault::RangeAsRead if of_call(LineFault::BadOperand) && is_outside((0, &operands[0])) => {
+                Err(LineFault::Outside)
+            }
+            Fault::SecondUnchecked if of_call(LineFault::Outside) => {
+                retry(format!("{name} {} 0", operands[0]))
+            }
             Fault::ZerosRefused if zeros => Err(LineFault::BadOperand),
             Fault::ZerosCounted if right.is_ok() && operand.len() > 20 => Err(LineFault::Outside),
             Fault::Octal if zeros && name == "Push" => {
@@ -214,7 +290,7 @@ impl Faulty {
                 Ok(number) if name == "Bnz" => Ok(Bnz(number as i16)),
                 Ok(number) if (number as u8) < PAGES => Ok(OutputTo(number as u8)),
                 Ok(_) => right,
-                Err(_) => right,
+                Err(_) => wrapped_call(&operands).unwrap_or(right),
             },
             _ => right,
         }
@@ -289,7 +365,7 @@ impl Texts for Faulty {
 
     fn list(&self, sheet: &[u8], buffer: &mut [u8]) -> Written {
         let Faulty(Way::List, fault) = *self else { return Itself.list(sheet, buffer) };
-        let (mut commands, mut refusal) = pass_pages(fault, sheet);
+        let (mut commands, mut refusal) = pass(fault, sheet);
         if fault == Fault::LimitLower && commands.len() == COMMANDS {
             commands.pop();
             refusal = Some(Refusal::new(1, encode(&commands).len()));
@@ -304,7 +380,18 @@ impl Texts for Faulty {
             }
             Some(Refusal { number: number @ 12, .. }) if fault == Fault::PageAsCode => *number = 2,
             Some(Refusal { number: 12, place }) if fault == Fault::PageOffset => *place += 1,
+            Some(Refusal { number: number @ 3, place }) if fault == Fault::CallBeforeCut => {
+                *number = if sheet[*place as usize] == 0x0d { 14 } else { 3 };
+            }
+            Some(Refusal { number: number @ 14, .. }) if fault == Fault::CallAsCode => *number = 2,
+            Some(Refusal { number: number @ 14, .. }) if fault == Fault::CallAsPage => *number = 12,
+            Some(Refusal { number: 14, place }) if fault == Fault::CallOffset => *place += 1,
             _ => {}
+        }
+        for command in commands.iter_mut().filter(|_| fault == Fault::SwappedListed) {
+            if let CallN(arguments, results) = command {
+                std::mem::swap(arguments, results);
+            }
         }
         let mut text = normal(&commands);
         match fault {
@@ -313,6 +400,8 @@ impl Texts for Faulty {
             Fault::LeastListed => text = text.replace("-9223372036854775808", "-0"),
             Fault::Unsigned => text = text.replace("Bnz -1\n", "Bnz 65535\n"),
             Fault::PageLost => text = text.replace("OutputTo 15\n", "OutputTo\n"),
+            Fault::SecondLost => text = text.replace("CallN 15 1\n", "CallN 15\n"),
+            Fault::WordListed => text = text.replace("CallN 15 1\n", "CallN 241\n"),
             Fault::NewlineMissing => text.truncate(text.len().saturating_sub(1)),
             _ => {}
         }
@@ -320,24 +409,51 @@ impl Texts for Faulty {
     }
 }
 
-/// The commands of a sheet as far as they pass, and the refusal of the next. With the fault pages pass that should not.
-fn pass_pages(fault: Fault, sheet: &[u8]) -> (Vec<Command>, Option<Refusal>) {
+/// The CallN whose operands are what is left of these in eight bits.
+fn wrapped_call(operands: &[&str]) -> Option<Result<Command, LineFault>> {
+    let [arguments, results] = operands else { return None };
+    let wrapped = |operand: &str| Some(operand.parse::<i128>().ok()? as u8);
+    let (arguments, results) = (wrapped(arguments)?, wrapped(results)?);
+    (arguments <= ARGUMENTS && results <= RESULTS).then_some(Ok(CallN(arguments, results)))
+}
+
+/// The command that passes with the fault and should not, given its operands and the number that refuses it.
+fn passes(fault: Fault, number: u64, operands: &[u8]) -> Option<Command> {
+    match (number, operands) {
+        (12, &[page, ..]) => {
+            let passes = fault == Fault::PageListed || fault == Fault::PageSixteen && page == PAGES;
+            passes.then_some(OutputTo(page))
+        }
+        (14, &[arguments, results, ..]) => {
+            let call = CallN(arguments, results);
+            let word = 16 * u16::from(arguments) + u16::from(results);
+            let unpacked = CallN((word / 16) as u8, (word % 16) as u8);
+            match fault {
+                Fault::CallListed => Some(call),
+                Fault::CallSixteen if arguments == ARGUMENTS + 1 && results <= RESULTS => Some(call),
+                Fault::CallTwo if arguments <= ARGUMENTS && results == RESULTS + 1 => Some(call),
+                Fault::CallPacked => Some(unpacked).filter(|&call| decode(&encode(&[call])).is_ok()),
+                _ => None,
+            }
+        }
+        _ => None,
+    }
+}
+
+/// The commands of a sheet as far as they pass, and the refusal of the next. With the fault some pass that should not.
+fn pass(fault: Fault, sheet: &[u8]) -> (Vec<Command>, Option<Refusal>) {
     let refusal = match decode(sheet) {
         Ok(commands) => return (commands, None),
         Err(refusal) => refusal,
     };
     let at = refusal.place as usize;
     let mut commands = decode(&sheet[..at]).unwrap_or_default();
-    let passes = match fault {
-        Fault::PageListed => true,
-        Fault::PageSixteen => sheet.get(at + 1) == Some(&PAGES),
-        _ => false,
-    };
-    if refusal.number != 12 || !passes {
+    let Some(command) = passes(fault, refusal.number, &sheet[at + 1..]) else {
         return (commands, Some(refusal));
-    }
-    let (rest, refusal) = pass_pages(fault, &sheet[at + 2..]);
-    commands.push(OutputTo(sheet[at + 1]));
+    };
+    let next = at + encode(&[command]).len();
+    let (rest, refusal) = pass(fault, &sheet[next..]);
+    commands.push(command);
     commands.extend(rest);
-    (commands, refusal.map(|Refusal { number, place }| Refusal { number, place: place + at as u64 + 2 }))
+    (commands, refusal.map(|Refusal { number, place }| Refusal { number, place: place + next as u64 }))
 }

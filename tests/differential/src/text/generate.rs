@@ -51,15 +51,20 @@ fn numeral(random: &mut Random, number: i128) -> String {
     format!("{}{}{}", if minus { "-" } else { "" }, "0".repeat(zeros), number.unsigned_abs())
 }
 
-/// A numeral for a number outside the command's range, next to it in some cases.
-fn outside(random: &mut Random, command: Command) -> String {
-    let (above, below): (i128, i128) = match command {
-        OutputTo(_) => (PAGES.into(), -1),
-        Bnz(_) => (1 << 15, (-1 << 15) - 1),
-        _ => (1 << 63, (-1 << 63) - 1),
-    };
-    // What is 0 in as many bits as the command's operand has.
-    let wraps = if matches!(command, OutputTo(_)) { 256 } else { 2 * above } * random.between(1, 9) as i128;
+/// What is next to the range of each of a command's operands: above it, below it; and what is 0 in as many bits. A
+/// command that has none is taken for a Push.
+fn next_to(command: Command) -> Vec<[i128; 3]> {
+    match command {
+        OutputTo(_) => vec![[PAGES.into(), -1, 1 << 8]],
+        CallN(..) => vec![[16, -1, 1 << 8], [2, -1, 1 << 8]],
+        Bnz(_) => vec![[1 << 15, (-1 << 15) - 1, 1 << 16]],
+        _ => vec![[1 << 63, (-1 << 63) - 1, 1 << 64]],
+    }
+}
+
+/// A numeral for a number outside a range, next to it in some cases.
+fn outside(random: &mut Random, [above, below, wraps]: [i128; 3]) -> String {
+    let wraps = wraps * random.between(1, 9) as i128;
     match random.weighted(&[30, 30, 10, 10, 10, 10]) {
         0 => numeral(random, above),
         1 => numeral(random, below),
@@ -70,29 +75,57 @@ fn outside(random: &mut Random, command: Command) -> String {
     }
 }
 
+/// A line whose operands are outside their ranges, or one of them is.
+fn outside_line(random: &mut Random, command: Command) -> Vec<u8> {
+    let ranges = next_to(command);
+    let at = random.below(ranges.len() + 1);
+    let mut line = command.name().to_owned();
+    for (index, range) in ranges.into_iter().enumerate() {
+        let inside = command.operands().get(index).filter(|_| index + 1 == at).copied();
+        let operand = match inside {
+            Some(operand) => numeral(random, operand.into()),
+            None => outside(random, range),
+        };
+        line += &format!(" {operand}");
+    }
+    line.into()
+}
+
 fn line(random: &mut Random, command: Command) -> Vec<u8> {
-    match command.operand() {
-        Some(operand) => format!("{} {}", command.name(), numeral(random, operand.into())).into(),
-        None => command.name().into(),
+    let mut line = command.name().to_owned();
+    for operand in command.operands() {
+        line += &format!(" {}", numeral(random, operand.into()));
+    }
+    line.into()
+}
+
+/// Puts something else in the place of the space before an operand.
+fn spoil_space(random: &mut Random, line: &mut Vec<u8>) {
+    let spaces: Vec<usize> = (0..line.len()).filter(|&at| line[at] == b' ').collect();
+    if !spaces.is_empty() {
+        let at = random.pick(&spaces);
+        let other = random.pick(&["", "  ", "\t", "\r", " +", " -", " --", "-", "\0", " \0"]);
+        line.splice(at..=at, other.bytes());
     }
 }
 
 /// A line that is mostly refused.
 fn faulty_line(random: &mut Random) -> Vec<u8> {
-    let command =
-        if random.percent(60) { random.pick(&[Push(-10), Bnz(7), OutputTo(3)]) } else { command(random) };
+    let usual = [Push(-10), Bnz(7), OutputTo(3), CallN(2, 1), CallN(2, 1)];
+    let command = if random.percent(60) { random.pick(&usual) } else { command(random) };
     let name = command.name();
     let mut line = line(random, command);
-    match random.weighted(&[30, 8, 12, 12, 12, 12, 12, 2]) {
-        0 => line = format!("{name} {}", outside(random, command)).into(),
-        // one operand too many
-        1 => line.extend(format!(" {}", outside(random, command)).bytes()),
-        2 => line.extend(random.pick(&[" ", "  ", "\t", "\r", " 1", " -", "-", "\0", ";"]).bytes()),
-        // what stands before the operand
-        3 if line.len() > name.len() => {
-            let other = random.pick(&["", "  ", "\t", "\r", " +", " -", " --", "-", "\0", " \0"]);
-            line.splice(name.len()..=name.len(), other.bytes());
+    match random.weighted(&[34, 8, 12, 14, 12, 12, 12, 6, 2]) {
+        0 => {
+            line = outside_line(random, command);
+            if random.percent(15) {
+                spoil_space(random, &mut line);
+            }
         }
+        // one operand too many
+        1 => line.extend(format!(" {}", outside(random, next_to(command)[0])).bytes()),
+        2 => line.extend(random.pick(&[" ", "  ", "\t", "\r", " 1", " -", "-", "\0", ";"]).bytes()),
+        3 if line.len() > name.len() => spoil_space(random, &mut line),
         // a letter in the other case
         3 | 4 => line[random.below(name.len())] ^= 0x20,
         // a part of the name, or more than the name
@@ -104,6 +137,8 @@ fn faulty_line(random: &mut Random) -> Vec<u8> {
             line.splice(name.len()..name.len(), more.bytes());
         }
         6 => damage(random, &mut line, b" -+\t\r09:/aA\0\xb1"),
+        // one operand too few
+        7 => line.truncate(line.iter().rposition(|&byte| byte == b' ').unwrap_or(0)),
         _ => line.clear(),
     }
     line
@@ -132,7 +167,7 @@ fn text(random: &mut Random) -> Vec<u8> {
     };
     text.extend(end.bytes());
     if random.percent(8) {
-        damage(random, &mut text, b" -+\n\r\t09:/AaPuBnz\0\xff");
+        damage(random, &mut text, b" -+\n\r\t09:/AaPuBnzCV\0\xff");
     }
     text
 }

@@ -2,7 +2,7 @@
 
 use super::{Case, Way};
 use crate::backend::Itself;
-use model::sheet::{decode, Command, Command::*, COMMANDS, EACH};
+use model::sheet::{decode, Command, Command::*, ARGUMENTS, COMMANDS, EACH, RESULTS};
 use model::text::{command, lines, read, LineFault};
 
 type Met = Vec<(&'static str, bool)>;
@@ -97,6 +97,10 @@ fn commands_met(commands: Option<&[Command]>) -> Met {
         ("Bnz 0", has(Bnz(0))),
         ("OutputTo 0", has(OutputTo(0))),
         ("OutputTo 15", has(OutputTo(15))),
+        ("CallN 0 0", has(CallN(0, 0))),
+        ("CallN 0 1", has(CallN(0, 1))),
+        ("CallN 15 0", has(CallN(15, 0))),
+        ("CallN 15 1", has(CallN(15, 1))),
         ("no command", commands(&|all| all.is_empty())),
         ("4,096 commands", commands(&|all| all.len() == COMMANDS)),
     ]);
@@ -111,12 +115,28 @@ fn listed_met(case: &Case, refusal: u64) -> Met {
     let next = at.and_then(|at| case.input.get(at + 1).copied());
     let page = next.filter(|_| refusal == 12);
     let later = at.is_some_and(|at| page.is_some() && decode(&case.input[at + 2..]).is_err());
+    let operands = at.and_then(|at| case.input[at + 1..].first_chunk()).filter(|_| code == Some(0x0d));
+    let [first, second] = *operands.unwrap_or(&[0, 0]);
+    let of_call = |number| refusal == number && code == Some(0x0d);
+    let call_later = at.is_some_and(|at| of_call(14) && decode(&case.input[at + 3..]).is_err());
     met.extend([
         ("1", refusal == 1),
         ("1 at a page over 15", refusal == 1 && next.is_some_and(|page| code == Some(0x0c) && page > 15)),
         ("2", refusal == 2),
-        ("2, 0d", refusal == 2 && code == Some(0x0d)),
+        ("1 at a call out of range", of_call(1) && (first > ARGUMENTS || second > RESULTS)),
+        ("2, 0f", refusal == 2 && code == Some(0x0f)),
         ("3", refusal == 3),
+        ("3, CallN", of_call(3)),
+        ("3, CallN with one operand", of_call(3) && next.is_some()),
+        ("3, CallN with one over 15", of_call(3) && next.is_some_and(|first| first > ARGUMENTS)),
+        ("14, the first alone", of_call(14) && first > ARGUMENTS && second <= RESULTS),
+        ("14, the second alone", of_call(14) && first <= ARGUMENTS && second > RESULTS),
+        ("14, both", of_call(14) && first > ARGUMENTS && second > RESULTS),
+        ("14, 16 arguments", of_call(14) && first == ARGUMENTS + 1),
+        ("14, 2 results", of_call(14) && second == RESULTS + 1),
+        ("14, 00 10", of_call(14) && [first, second] == [0, 0x10]),
+        ("14, over 127", of_call(14) && first.max(second) > 127),
+        ("14 before another", call_later),
         ("3, OutputTo", refusal == 3 && code == Some(0x0c)),
         ("12", refusal == 12),
         ("12, page 16", page == Some(16)),
@@ -140,8 +160,19 @@ fn operands_met(text: &[u8], is_read: bool) -> Met {
         ("leading zeros", any(&|operand| digits(operand).len() > 1 && digits(operand).starts_with('0'))),
         ("a minus before 0", any(&|operand| operand.starts_with('-') && operand.parse() == Ok(0))),
         ("a minus before page 0", is_read && lines(text).any(|line| line.starts_with(b"OutputTo -"))),
+        ("a minus before 0 arguments", is_read && lines(text).any(|line| line.starts_with(b"CallN -"))),
         ("over 100 digits", any(&|operand| operand.len() > 100)),
     ]
+}
+
+/// Whether a numeral is outside the range of that operand of the command of this name, or of its only one.
+pub fn outside_at(name: &str, index: usize, operand: &str) -> bool {
+    let line = match (name, index) {
+        ("CallN", 0) => format!("{name} {operand} 0"),
+        ("CallN", _) => format!("{name} 0 {operand}"),
+        _ => format!("{name} {operand}"),
+    };
+    command(line.as_bytes()) == Err(LineFault::Outside)
 }
 
 /// What may be met at the line that is refused.
@@ -153,8 +184,13 @@ fn line_met(line: &[u8], fault: Option<LineFault>) -> Met {
     let (name, operands) = (words[0].as_str(), &words[1..]);
     let alike = |test: &dyn Fn(&str) -> bool| unknown && EACH.into_iter().any(|each| test(each.name()));
     let is_outside =
-        |operand: &String| command(format!("{name} {operand}").as_bytes()) == Err(LineFault::Outside);
+        |index: usize| operands.get(index).is_some_and(|operand| outside_at(name, index, operand));
+    let any_outside = (0..operands.len()).any(is_outside);
     let next = |each: &str, number: i128| outside && name == each && operands[0].parse() == Ok(number);
+    let call = |is: bool| is && name == "CallN";
+    let number = |index: usize| operands.get(index).and_then(|operand| operand.parse::<i128>().ok());
+    let count = |of: usize| call(is(LineFault::OperandCount)) && operands.len() == of;
+    let (first, second) = (call(is_outside(0)), call(is_outside(1)));
     vec![
         ("1", is(LineFault::TooMany)),
         ("1 at a line that is 10 or 11", is(LineFault::TooMany) && command(line).is_err()),
@@ -170,7 +206,14 @@ fn line_met(line: &[u8], fault: Option<LineFault>) -> Met {
             is(LineFault::OperandCount) && name == "OutputTo" && operands.is_empty(),
         ),
         ("10, operand badly written", is(LineFault::BadOperand)),
-        ("10 before 11", ten && operands.iter().any(is_outside)),
+        ("10 before 11", ten && any_outside),
+        ("10, Call with operands", is(LineFault::OperandCount) && name == "Call"),
+        ("10, RetV with an operand", is(LineFault::OperandCount) && name == "RetV"),
+        ("10, CallN without operands", count(0)),
+        ("10, CallN with one", count(1)),
+        ("10, CallN with three", count(3)),
+        ("10 of the second before 11", is(LineFault::BadOperand) && first),
+        ("10 of the first before 11", is(LineFault::BadOperand) && second),
         ("11", outside),
         ("11, Push 2^63", next("Push", 1 << 63)),
         ("11, Push -2^63-1", next("Push", (-1 << 63) - 1)),
@@ -179,6 +222,13 @@ fn line_met(line: &[u8], fault: Option<LineFault>) -> Met {
         ("11, OutputTo 16", next("OutputTo", 16)),
         ("11, OutputTo -1", next("OutputTo", -1)),
         ("11, OutputTo 256", next("OutputTo", 256)),
+        ("11, CallN, the first alone", outside && first && !second),
+        ("11, CallN, the second alone", outside && second && !first),
+        ("11, CallN, both", outside && first && second),
+        ("11, CallN 16", call(outside) && number(0) == Some(16)),
+        ("11, CallN -1", call(outside) && number(0) == Some(-1)),
+        ("11, CallN, results 2", call(outside) && number(1) == Some(2)),
+        ("11, CallN, results -1", call(outside) && number(1) == Some(-1)),
         ("11, over 100 digits", outside && operands[0].len() > 100),
     ]
 }

@@ -84,7 +84,8 @@ returns-7 c =
     let at-bits = c .before .before .before .before .before .before .before .before in
     let start = at-bits .before in
     c .before .call .ensures (start .args .word) (start .args .operand)
-    (cells (now (start .args .values)) (now (start .args .labels))) (sym (bits at-bits) ∙ c .before .before .before .if9 .taken)
+    (cells (now (start .args .values)) (now (start .args .labels)))
+    (inl (sym (bits at-bits) ∙ c .before .before .before .if9 .taken, refl, refl))
 
 returns-8 : tie.Need-returns-8
 returns-8 c =
@@ -101,27 +102,48 @@ returns-8 c =
 
 returns-9 : tie.Need-returns-9
 returns-9 c =
-    let at-bits = c .before .before .before .before .before .before in
+    let at-bits = c .before .before .before .before .before .before .before .before in
     let start = at-bits .before in
-    let more : 11 < at-bits .to-bits .result = omega (arith, c .before .before .if8 .left) in
     c .output2 .ensures (start .args .word) (start .args .operand)
     (cells (now (start .args .values)) (now (start .args .labels)))
-    (inr (rw (bits at-bits) at more, back {z = start .args .operand} (start .fits .operand)))
+    (inr (sym (bits at-bits) ∙ c .before .before .if11 .taken, back {z = start .args .operand} (start .fits .operand)))
 
 returns-10 : tie.Need-returns-10
 returns-10 c =
-    let at-bits = c .before .before .before .before .before .before in
+    let at-bits = c .before .before .before .before .before .before .before .before .before in
     let start = at-bits .before in
-    c .jump .ensures (start .args .word) (start .args .operand)
-    (cells (now (start .args .values)) (now (start .args .labels))) (sym (bits at-bits) ∙ c .before .before .if10 .taken)
+    let is : at-bits .to-bits .result ≡ 13 = omega (
+      arith,
+      c .before .before .before .if11 .left,
+      c .before .before .before .before .if10 .taken,
+      c .before .before .before .before .before .if8 .left,
+    ) in
+    rw (back {z = start .args .operand} (start .fits .operand)) at
+    (c .before .call-n .ensures (start .args .word) (cells (now (start .args .values)) (now (start .args .labels)))
+    (sym (bits at-bits) ∙ is))
 
 returns-11 : tie.Need-returns-11
 returns-11 c =
+    let at-bits = c .before .before .before .before .before .before .before .before in
+    let start = at-bits .before in
+    let more : 13 < at-bits .to-bits .result = omega (arith, c .before .before .before .if10 .left) in
+    c .before .ret-v .ensures (start .args .word) (start .args .operand)
+    (cells (now (start .args .values)) (now (start .args .labels))) (rw (bits at-bits) at more)
+
+returns-12 : tie.Need-returns-12
+returns-12 c =
+    let at-bits = c .before .before .before .before .before .before in
+    let start = at-bits .before in
+    c .jump .ensures (start .args .word) (start .args .operand)
+    (cells (now (start .args .values)) (now (start .args .labels))) (sym (bits at-bits) ∙ c .before .before .if12 .taken)
+
+returns-13 : tie.Need-returns-13
+returns-13 c =
     let at-bits = c .before .before .before .before .before .before in
     let start = at-bits .before in
     let is : at-bits .to-bits .result ≡ 9 = omega (
       arith,
-      c .before .before .if10 .left,
+      c .before .before .if12 .left,
       c .before .before .before .if7 .left,
       c .before .before .before .before .if5 .left,
     ) in
@@ -169,4 +191,10 @@ act-spec =
     returns-10
     (λ c κs. search needs)
     (λ c. search needs)
-    returns-11)
+    returns-11
+    (λ c κs. search needs)
+    (λ c. search needs)
+    returns-12
+    (λ c κs. search needs)
+    (λ c. search needs)
+    returns-13)

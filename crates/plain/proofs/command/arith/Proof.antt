@@ -20,7 +20,7 @@ returns c = λ word operand k e.
     let at-find = c .before .before .before in
     let start = at-find .before .before in
     let l = lent (now (start .args .stack)) k in
-    let found : at-find .two-values .result ≡ findOf (residue 64 word) (start .args .m) l = rw (
+    let found : at-find .two-values .result ≡ findOf (residue 64 word) operand (start .args .m) l = rw (
       e,
       lt-ltb (start .args .code) 6 (omega (arith, start .pre)),
       lt-ltb (start .args .code) 3 (start .pre),
@@ -33,7 +33,7 @@ returns-2 c = λ word operand k e.
     let at-find = c .before .before .before .before .before .before in
     let start = at-find .before .before in
     let l = lent (now (start .args .stack)) k in
-    let found : at-find .two-values .result ≡ findOf (residue 64 word) (start .args .m) l = rw (
+    let found : at-find .two-values .result ≡ findOf (residue 64 word) operand (start .args .m) l = rw (
       e,
       lt-ltb (start .args .code) 6 (omega (arith, start .pre)),
       lt-ltb (start .args .code) 3 (start .pre),

@@ -19,7 +19,7 @@ returns c = λ word k e.
     let at-find = c .before .before .before in
     let start = at-find .before in
     let l = lent (now (start .args .stack)) k in
-    let found : at-find .one-value .result ≡ findOf (residue 64 word) (start .args .m) l = rw e (at-find .one-value .ensures) in
+    let found : at-find .one-value .result ≡ findOf (residue 64 word) (start .args .operand) (start .args .m) l = rw e (at-find .one-value .ensures) in
     rw (c .stopped .ensures)
     (act-halted word (start .args .operand) (start .args .m) l (at-find .one-value .result) found (c .before .if1 .taken))
 
@@ -29,7 +29,7 @@ returns-2 c = λ word k e.
     let at-find = c .before .before .before .before in
     let start = at-find .before in
     let l = lent (now (start .args .stack)) k in
-    let found : at-find .one-value .result ≡ findOf (residue 64 word) (start .args .m) l = rw e (at-find .one-value .ensures) in
+    let found : at-find .one-value .result ≡ findOf (residue 64 word) (start .args .operand) (start .args .m) l = rw e (at-find .one-value .ensures) in
     act-allowed word (start .args .operand) (start .args .m) l (at-find .one-value .result) found (c .before .before .if1 .left)
     (c .before .join .result .0) 0 (rw (e, c .before .join .ensures)) _
     (rw e (ap (λ r. after r l) (rw (back {z = start .args .operand} (start .fits .operand)) at (c .bnz .ensures))))

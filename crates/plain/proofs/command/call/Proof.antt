@@ -1,36 +1,40 @@
 -- `plain::command::call` meets its contract: what it finds, the rule, what it does.
 -- Assumes nothing.
-use mathlib.Core.Path.{_≡_, ap}
+use mathlib.Core.Path.{_≡_, _∙_, ap}
 use denote.Ref.{now}
 use Rattle.word.specs.Wrap.{residue}
+use Rattle.word.proofs.Signed.{back}
 use Rattle.step.specs.Lent.{lent, withStack}
 use Rattle.step.specs.Find.{findOf}
-use Rattle.step.specs.Effect.{effectOf}
-use Rattle.plain.specs.Ruler.{standardBy}
 use Rattle.plain.proofs.Acting.{act-halted, act-allowed}
+use Rattle.plain.proofs.Calling.{call-find, call-rule, call-effect}
 use borrow.Author.Needs.{needs}
 use Rattle.plain.proofs.command.call.Statement.{statement}
 use Rattle.plain.proofs.command.call.Tie as tie
 
 returns : tie.Need-returns
-unfolding findOf
 returns c = λ word operand k e.
     let at-find = c .before .before .before in
     let start = at-find .before .before in
     let l = lent (now (start .args .stack)) k in
-    let found : at-find .call-values .result ≡ findOf (residue 64 word) (start .args .m) l = rw e (at-find .call-values .ensures) in
+    let found : at-find .call-values .result ≡ findOf (residue 64 word) operand (start .args .m) l =
+    at-find .call-values .ensures ∙ call-find (residue 64 word) operand _ _ (start .args .m) l e in
     rw (c .stopped .ensures) (act-halted word operand (start .args .m) l (at-find .call-values .result) found (c .before .if1 .taken))
 
 returns-2 : tie.Need-returns-2
-unfolding findOf standardBy effectOf
 returns-2 c = λ word operand k e.
-    let at-find = c .before .before .before .before .before .before in
+    let at-join = c .before .before .before in
+    let at-find = at-join .before .before .before in
     let start = at-find .before .before in
     let l = lent (now (start .args .stack)) k in
-    let found : at-find .call-values .result ≡ findOf (residue 64 word) (start .args .m) l = rw e (at-find .call-values .ensures) in
-    act-allowed word operand (start .args .m) l (at-find .call-values .result) found (c .before .before .before .before .if1 .left)
-    (c .before .before .before .join .result .0) (start .args .m .label .0) (rw (e, c .before .before .before .join .ensures)) _
-    (rw e (ap (withStack l) (c .before .call .ensures)))
+    let code = residue 64 word in
+    let m = start .args .m in
+    let found : at-find .call-values .result ≡ findOf code operand m l =
+    at-find .call-values .ensures ∙ call-find code operand _ _ m l e in
+    act-allowed word operand m l (at-find .call-values .result) found (at-join .before .if1 .left)
+    (at-join .join .result .0) (m .label .0) (rw (at-join .join .ensures) (call-rule code operand _ _ m l e _ _ _ _)) _
+    (ap (withStack l) (rw (back {z = start .args .kind} (start .fits .kind)) at (c .before .call .ensures))
+    ∙ call-effect code operand _ _ m l e _ _)
 
 pub call-spec : {M : Type 1} → statement M
 call-spec =

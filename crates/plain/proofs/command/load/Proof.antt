@@ -18,7 +18,7 @@ returns c = λ word operand e.
     let at-find = c .before .before .before in
     let start = at-find .before .before in
     let l = lent (now (start .args .stack)) (cells (now (start .args .values)) (now (start .args .labels))) in
-    let found : at-find .load-cell .result ≡ findOf (residue 64 word) (start .args .m) l = rw e (at-find .load-cell .ensures) in
+    let found : at-find .load-cell .result ≡ findOf (residue 64 word) operand (start .args .m) l = rw e (at-find .load-cell .ensures) in
     rw (c .stopped .ensures) (act-halted word operand (start .args .m) l (at-find .load-cell .result) found (c .before .if1 .taken))
 
 returns-2 : tie.Need-returns-2
@@ -27,7 +27,7 @@ returns-2 c = λ word operand e.
     let at-find = c .before .before .before .before .before .before in
     let start = at-find .before .before in
     let l = lent (now (start .args .stack)) (cells (now (start .args .values)) (now (start .args .labels))) in
-    let found : at-find .load-cell .result ≡ findOf (residue 64 word) (start .args .m) l = rw e (at-find .load-cell .ensures) in
+    let found : at-find .load-cell .result ≡ findOf (residue 64 word) operand (start .args .m) l = rw e (at-find .load-cell .ensures) in
     act-allowed word operand (start .args .m) l (at-find .load-cell .result) found (c .before .before .before .before .if1 .left)
     (start .args .m .label .0) (c .before .before .before .join .result .0) (rw (e, c .before .before .before .join .ensures)) _
     (rw e (ap (withStack l) (c .before .load .ensures)))

@@ -17,7 +17,7 @@ returns c = λ word operand k e.
     let at-find = c .before .before .before in
     let start = at-find .before in
     let l = lent (now (start .args .stack)) k in
-    let found : at-find .one-value .result ≡ findOf (residue 64 word) (start .args .m) l =
+    let found : at-find .one-value .result ≡ findOf (residue 64 word) operand (start .args .m) l =
     at-find .one-value .ensures ∙ print-find (residue 64 word) operand _ (start .args .m) l e in
     rw (c .stopped .ensures) (act-halted word operand (start .args .m) l (at-find .one-value .result) found (c .before .if1 .taken))
 
@@ -28,7 +28,7 @@ returns-2 c = λ word operand k e.
     let l = lent (now (start .args .stack)) k in
     let code = residue 64 word in
     let m = start .args .m in
-    let found : at-find .one-value .result ≡ findOf code m l = at-find .one-value .ensures ∙ print-find code operand _ m l e in
+    let found : at-find .one-value .result ≡ findOf code operand m l = at-find .one-value .ensures ∙ print-find code operand _ m l e in
     act-allowed word operand m l (at-find .one-value .result) found (c .before .before .if1 .left)
     (m .label .0) (c .before .join .result .0)
     (rw (c .before .join .ensures) (print-rule code operand _ m l e _ _ _ _)) _

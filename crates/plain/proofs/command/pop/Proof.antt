@@ -18,7 +18,7 @@ returns c = λ word operand k e.
     let at-find = c .before .before .before in
     let start = at-find .before in
     let l = lent (now (start .args .stack)) k in
-    let found : at-find .one-value .result ≡ findOf (residue 64 word) (start .args .m) l = rw e (at-find .one-value .ensures) in
+    let found : at-find .one-value .result ≡ findOf (residue 64 word) operand (start .args .m) l = rw e (at-find .one-value .ensures) in
     rw (c .stopped .ensures) (act-halted word operand (start .args .m) l (at-find .one-value .result) found (c .before .if1 .taken))
 
 returns-2 : tie.Need-returns-2
@@ -27,7 +27,7 @@ returns-2 c = λ word operand k e.
     let at-find = c .before .before .before in
     let start = at-find .before in
     let l = lent (now (start .args .stack)) k in
-    let found : at-find .one-value .result ≡ findOf (residue 64 word) (start .args .m) l = rw e (at-find .one-value .ensures) in
+    let found : at-find .one-value .result ≡ findOf (residue 64 word) operand (start .args .m) l = rw e (at-find .one-value .ensures) in
     act-allowed word operand (start .args .m) l (at-find .one-value .result) found (c .before .if1 .left) (start .args .m .label .0) 0
     (rw e) _
     (rw e (ap (λ r. after r l) (c .pop .ensures)))

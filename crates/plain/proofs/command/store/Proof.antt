@@ -18,7 +18,7 @@ returns c = λ word operand e.
     let at-find = c .before .before .before in
     let start = at-find .before .before .before in
     let l = lent (now (start .args .stack)) (cells (now (start .args .values)) (now (start .args .labels))) in
-    let found : at-find .store-cell .result ≡ findOf (residue 64 word) (start .args .m) l = rw e (at-find .store-cell .ensures) in
+    let found : at-find .store-cell .result ≡ findOf (residue 64 word) operand (start .args .m) l = rw e (at-find .store-cell .ensures) in
     rw (c .stopped .ensures) (act-halted word operand (start .args .m) l (at-find .store-cell .result) found (c .before .if1 .taken))
 
 returns-2 : tie.Need-returns-2
@@ -32,7 +32,7 @@ returns-2 c = λ word operand e.
     let at-find = at-if1 .before .before in
     let start = at-find .before .before .before in
     let l = lent (now (start .args .stack)) (cells (now (start .args .values)) (now (start .args .labels))) in
-    let found : at-find .store-cell .result ≡ findOf (residue 64 word) (start .args .m) l = rw e (at-find .store-cell .ensures) in
+    let found : at-find .store-cell .result ≡ findOf (residue 64 word) operand (start .args .m) l = rw e (at-find .store-cell .ensures) in
     act-allowed word operand (start .args .m) l (at-find .store-cell .result) found (at-if1 .if1 .left) (start .args .m .label .0)
     (at-join3 .join3 .result .0)
     (rw (
@@ -54,7 +54,7 @@ returns-3 c = λ word operand e.
     let at-find = at-if1 .before .before in
     let start = at-find .before .before .before in
     let l = lent (now (start .args .stack)) (cells (now (start .args .values)) (now (start .args .labels))) in
-    let found : at-find .store-cell .result ≡ findOf (residue 64 word) (start .args .m) l = rw e (at-find .store-cell .ensures) in
+    let found : at-find .store-cell .result ≡ findOf (residue 64 word) operand (start .args .m) l = rw e (at-find .store-cell .ensures) in
     rw (c .stopped2 .ensures)
     (act-denied word operand (start .args .m) l (at-find .store-cell .result) found (at-if1 .if1 .left)
     (rw (e, ← at-join .join .ensures, ← at-if2 .before .flows .ensures, at-if2 .if2 .left)))

@@ -1,22 +1,15 @@
--- `stack::Machine::push` meets its contract: three stores, one after the other.
+-- `stack::Machine::push` meets its contract: an entry where there is room for one.
 -- Assumes nothing.
 use mathlib.Core.Logic.{⊎-elim}
-use lib.ListN.{length-set}
 use borrow.Author.Tests.{lt-ltb, le-ltb, le-leb, lt-leb}
-use Rattle.word.proofs.Signed.{back, back-ok}
+use Rattle.word.proofs.Signed.{back}
 use Rattle.stack.specs.Words.{pushed, setEntry, pushedStack}
 use borrow.Author.Needs.{needs}
 use Rattle.stack.proofs.Machine.push.Statement.{statement}
 use Rattle.stack.proofs.Machine.push.Tie as tie
 
-slice-set-from-number : tie.Need-slice-set-from-number
-slice-set-from-number c = rw length-set (search needs)
-
-slice-set-from-stack : tie.Need-slice-set-from-stack
-slice-set-from-stack c = rw (length-set, length-set) (search needs)
-
 same-length : tie.Need-same-length
-same-length c = ⊎-elim (λ w. rw (w .2, length-set, length-set, length-set)) (λ w. rw (w .1)) (c .if2 .came)
+same-length c = ⊎-elim (λ w. rw (w .4) (w .3 .given)) (λ w. rw (w .1)) (c .if2 .came)
 
 returns : tie.Need-returns
 unfolding pushed pushedStack setEntry
@@ -27,11 +20,10 @@ returns c =
           (λ w. rw (
             lt-ltb _ _ (c .before .if1 .taken),
             le-leb _ _ (w .0 .taken),
-            w .2,
+            w .4,
+            w .2 .ensures,
             back {z = s .args .kind} (s .fits .kind),
             back {z = s .args .number} (s .fits .number),
-            back-ok (w .1 .result) (w .1 .ok),
-            w .1 .ensures,
           ))
           (λ w. rw (lt-ltb _ _ (c .before .if1 .taken), lt-leb _ _ (w .0 .left), w .1))
           (c .if2 .came),
@@ -45,16 +37,7 @@ pub push-spec : {M : Type 1} → statement M
 push-spec =
     tie.close
     (tie.spec
-    (λ c. search needs)
-    (λ c. search needs)
-    (λ c. search needs)
-    (λ c. search needs)
-    (λ c. search needs)
-    slice-set-from-number
     (λ c κs. search needs)
-    (λ c. search needs)
-    (λ c. search needs)
-    slice-set-from-stack
     (λ c. search needs)
     same-length
     returns

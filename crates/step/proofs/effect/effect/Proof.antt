@@ -3,7 +3,7 @@
 use mathlib.Core.Path.{ap, _∙_}
 use denote.Ref.{now}
 use borrow.Author.Tests.{eq-eqb, ne-eqb, lt-ltb, le-ltb}
-use Rattle.word.proofs.Signed.{back}
+use Rattle.word.proofs.Signed.{back, back-ok}
 use Rattle.step.specs.Lent.{cells, Lent, lent, after, withStack, withCells}
 use Rattle.step.specs.Effect.{effectOf}
 use borrow.Author.Needs.{needs}
@@ -105,12 +105,19 @@ returns-9 : tie.Need-returns-9
 unfolding effectOf
 returns-9 c =
     let at-call = c .before in
-    let at-if9 = at-call .before .before in
+    let at-if10 = at-call .before .before in
+    let at-if9 = at-if10 .before in
     let at-if7 = at-if9 .before in
     let at-if5 = at-if7 .before in
     let at-if1 = at-if5 .before in
     let start = at-if1 .before in
-    rw (le-ltb _ _ (at-if1 .if1 .left), le-ltb _ _ (at-if5 .if5 .left), le-ltb _ _ (at-if7 .if7 .left), eq-eqb _ _ (at-if9 .if9 .taken))
+    rw (
+      le-ltb _ _ (at-if1 .if1 .left),
+      le-ltb _ _ (at-if5 .if5 .left),
+      le-ltb _ _ (at-if7 .if7 .left),
+      lt-ltb _ _ (at-if9 .if9 .taken),
+      eq-eqb _ _ (at-if10 .if10 .taken),
+    )
     (ap (withStack (runs start)) (at-call .call .ensures))
 
 returns-10 : tie.Need-returns-10
@@ -126,16 +133,17 @@ returns-10 c =
       le-ltb _ _ (at-if1 .if1 .left),
       le-ltb _ _ (at-if5 .if5 .left),
       le-ltb _ _ (at-if7 .if7 .left),
-      ne-eqb _ _ (at-if9 .if9 .left),
-      eq-eqb _ _ (at-if10 .if10 .taken),
+      lt-ltb _ _ (at-if9 .if9 .taken),
+      ne-eqb _ _ (at-if10 .if10 .left),
     )
     (ap ((λ r. after r (runs start))) (c .jump2 .ensures))
 
 returns-11 : tie.Need-returns-11
 unfolding effectOf
 returns-11 c =
-    let at-if10 = c .before .before in
-    let at-if9 = at-if10 .before in
+    let at-if12 = c .before .before in
+    let at-if11 = at-if12 .before in
+    let at-if9 = at-if11 .before in
     let at-if7 = at-if9 .before in
     let at-if5 = at-if7 .before in
     let at-if1 = at-if5 .before in
@@ -144,10 +152,61 @@ returns-11 c =
       le-ltb _ _ (at-if1 .if1 .left),
       le-ltb _ _ (at-if5 .if5 .left),
       le-ltb _ _ (at-if7 .if7 .left),
-      ne-eqb _ _ (at-if9 .if9 .left),
-      ne-eqb _ _ (at-if10 .if10 .left),
+      le-ltb _ _ (at-if9 .if9 .left),
+      lt-ltb _ _ (at-if11 .if11 .taken),
+      eq-eqb _ _ (at-if12 .if12 .taken),
     )
     (ap ((λ r. after r (runs start))) (c .output2 .ensures) ∙ rw (back {z = start .args .operand} (start .fits .operand)))
+
+returns-12 : tie.Need-returns-12
+unfolding effectOf
+returns-12 c =
+    let at-call = c .before in
+    let at-kind = at-call .before .before in
+    let at-results = at-kind .before in
+    let at-arguments = at-results .before in
+    let at-if12 = at-arguments .before in
+    let at-if11 = at-if12 .before in
+    let at-if9 = at-if11 .before in
+    let at-if7 = at-if9 .before in
+    let at-if5 = at-if7 .before in
+    let at-if1 = at-if5 .before in
+    let start = at-if1 .before in
+    rw (
+      le-ltb _ _ (at-if1 .if1 .left),
+      le-ltb _ _ (at-if5 .if5 .left),
+      le-ltb _ _ (at-if7 .if7 .left),
+      le-ltb _ _ (at-if9 .if9 .left),
+      lt-ltb _ _ (at-if11 .if11 .taken),
+      ne-eqb _ _ (at-if12 .if12 .left),
+    )
+    (ap (withStack (runs start)) (at-call .call2 .ensures)
+    ∙ rw (
+      back-ok (at-kind .frame-kind .result) (at-kind .frame-kind .ok),
+      at-kind .frame-kind .ensures,
+      at-results .results-of .ensures,
+      at-arguments .arguments-of .ensures,
+      back {z = start .args .operand} (start .fits .operand),
+    ))
+
+returns-13 : tie.Need-returns-13
+unfolding effectOf
+returns-13 c =
+    let at-return = c .before in
+    let at-if11 = at-return .before .before in
+    let at-if9 = at-if11 .before in
+    let at-if7 = at-if9 .before in
+    let at-if5 = at-if7 .before in
+    let at-if1 = at-if5 .before in
+    let start = at-if1 .before in
+    rw (
+      le-ltb _ _ (at-if1 .if1 .left),
+      le-ltb _ _ (at-if5 .if5 .left),
+      le-ltb _ _ (at-if7 .if7 .left),
+      le-ltb _ _ (at-if9 .if9 .left),
+      le-ltb _ _ (at-if11 .if11 .left),
+    )
+    (ap (withStack (runs start)) (at-return .return-value .ensures))
 
 pub effect-spec : {M : Type 1} → statement M
 effect-spec =
@@ -187,4 +246,13 @@ effect-spec =
     returns-10
     (λ c κs. search needs)
     (λ c. search needs)
-    returns-11)
+    returns-11
+    (λ c κs. search needs)
+    (λ c κs. search needs)
+    (λ c κs. search needs)
+    (λ c κs. search needs)
+    (λ c. search needs)
+    returns-12
+    (λ c κs. search needs)
+    (λ c. search needs)
+    returns-13)

@@ -1,6 +1,7 @@
 -- `step::find::find` meets its contract: the tests that led to a case choose it in the definition too.
 -- Assumes nothing.
 use borrow.Author.Tests.{eq-eqb, ne-eqb, lt-ltb, le-ltb}
+use Rattle.word.proofs.Signed.{back}
 use Rattle.step.specs.Find.{findOf}
 use borrow.Author.Needs.{needs}
 use Rattle.step.proofs.find.find.Statement.{statement}
@@ -56,7 +57,8 @@ returns-6 c =
 returns-7 : tie.Need-returns-7
 unfolding findOf
 returns-7 c =
-    let at-if7 = c .before in
+    let at-if8 = c .before in
+    let at-if7 = at-if8 .before in
     let at-if6 = at-if7 .before in
     let at-if4 = at-if6 .before in
     let at-if1 = at-if4 .before in
@@ -64,7 +66,8 @@ returns-7 c =
       le-ltb _ _ (at-if1 .if1 .left),
       le-ltb _ _ (at-if4 .if4 .left),
       le-ltb _ _ (at-if6 .if6 .left),
-      eq-eqb _ _ (at-if7 .if7 .taken),
+      lt-ltb _ _ (at-if7 .if7 .taken),
+      eq-eqb _ _ (at-if8 .if8 .taken),
       c .call-values .ensures,
     )
 
@@ -80,16 +83,17 @@ returns-8 c =
       le-ltb _ _ (at-if1 .if1 .left),
       le-ltb _ _ (at-if4 .if4 .left),
       le-ltb _ _ (at-if6 .if6 .left),
-      ne-eqb _ _ (at-if7 .if7 .left),
-      eq-eqb _ _ (at-if8 .if8 .taken),
+      lt-ltb _ _ (at-if7 .if7 .taken),
+      ne-eqb _ _ (at-if8 .if8 .left),
       c .one-frame .ensures,
     )
 
 returns-9 : tie.Need-returns-9
 unfolding findOf
 returns-9 c =
-    let at-if8 = c .before in
-    let at-if7 = at-if8 .before in
+    let at-if10 = c .before in
+    let at-if9 = at-if10 .before in
+    let at-if7 = at-if9 .before in
     let at-if6 = at-if7 .before in
     let at-if4 = at-if6 .before in
     let at-if1 = at-if4 .before in
@@ -97,9 +101,50 @@ returns-9 c =
       le-ltb _ _ (at-if1 .if1 .left),
       le-ltb _ _ (at-if4 .if4 .left),
       le-ltb _ _ (at-if6 .if6 .left),
-      ne-eqb _ _ (at-if7 .if7 .left),
-      ne-eqb _ _ (at-if8 .if8 .left),
+      le-ltb _ _ (at-if7 .if7 .left),
+      lt-ltb _ _ (at-if9 .if9 .taken),
+      eq-eqb _ _ (at-if10 .if10 .taken),
       c .one-value3 .ensures,
+    )
+
+returns-10 : tie.Need-returns-10
+unfolding findOf
+returns-10 c =
+    let at-arguments = c .before in
+    let at-if10 = at-arguments .before in
+    let at-if9 = at-if10 .before in
+    let at-if7 = at-if9 .before in
+    let at-if6 = at-if7 .before in
+    let at-if4 = at-if6 .before in
+    let at-if1 = at-if4 .before in
+    let s = at-if1 .before in
+    rw (
+      le-ltb _ _ (at-if1 .if1 .left),
+      le-ltb _ _ (at-if4 .if4 .left),
+      le-ltb _ _ (at-if6 .if6 .left),
+      le-ltb _ _ (at-if7 .if7 .left),
+      lt-ltb _ _ (at-if9 .if9 .taken),
+      ne-eqb _ _ (at-if10 .if10 .left),
+      c .call-values2 .ensures,
+      at-arguments .arguments-of .ensures,
+      back {z = s .args .operand} (s .fits .operand),
+    )
+
+returns-11 : tie.Need-returns-11
+unfolding findOf
+returns-11 c =
+    let at-if9 = c .before in
+    let at-if7 = at-if9 .before in
+    let at-if6 = at-if7 .before in
+    let at-if4 = at-if6 .before in
+    let at-if1 = at-if4 .before in
+    rw (
+      le-ltb _ _ (at-if1 .if1 .left),
+      le-ltb _ _ (at-if4 .if4 .left),
+      le-ltb _ _ (at-if6 .if6 .left),
+      le-ltb _ _ (at-if7 .if7 .left),
+      le-ltb _ _ (at-if9 .if9 .left),
+      c .value-and-frame .ensures,
     )
 
 pub find-spec : {M : Type 1} → statement M
@@ -123,4 +168,9 @@ find-spec =
     (λ c κs. search needs)
     returns-8
     (λ c κs. search needs)
-    returns-9)
+    returns-9
+    (λ c κs. search needs)
+    (λ c κs. search needs)
+    returns-10
+    (λ c κs. search needs)
+    returns-11)

@@ -34,8 +34,10 @@ module _ (f : tie.After-find) where
   code : f .before .before .before .before .before .to-bits .result ≡ residue 64 (start .args .word)
   code = f .before .before .before .before .before .to-bits .ensures ∙ ap (residue 64) (back {z = start .args .word} (start .fits .word))
 
-  found : f .find .result ≡ findOf (residue 64 (start .args .word)) (start .args .m) runs
-  found = f .find .ensures ∙ ap (λ n. findOf n (start .args .m) runs) code
+  found : f .find .result ≡ findOf (residue 64 (start .args .word)) (start .args .operand) (start .args .m) runs
+  found =
+      f .find .ensures
+      ∙ ap₂ (λ n z. findOf n z (start .args .m) runs) code (back {z = start .args .operand} (start .fits .operand))
 
   abbrev asks : ℤ → Asked
   asks word = record { code = word; pc = start .args .m .label .0; inputs = f .find .result }

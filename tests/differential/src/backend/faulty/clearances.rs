@@ -96,7 +96,7 @@ impl Faulty {
         let [number, place, ..] = answer.words;
         let thirteen = clearances(words).err();
         let before: &[u64] = match self.0 {
-            Fault::ClearancesFirst => &[1, 2, 3, 12, 4, 5],
+            Fault::ClearancesFirst => &[1, 2, 3, 12, 14, 4, 5],
             Fault::ClearancesBeforeLabels => &[5],
             _ => &[],
         };
