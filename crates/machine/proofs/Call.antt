@@ -15,16 +15,16 @@ use Rattle.program.specs.declared.Command.{Command}
 use Rattle.program.specs.declared.Command.the-variants.{Add, Sub, Pop, Output, Push, Load, Store, Jump, Bnz, Call, Ret, OutputTo, CallN, RetV}
 use Rattle.program.specs.Command.{argumentsOf, resultsOf}
 use Rattle.machine.specs.Atom.{Atom, Entry, value, frame}
-use Rattle.machine.specs.Rule.{Verdict, denied, allowed, Policy}
+use Rattle.machine.specs.Rule.{Policy}
 use Rattle.machine.specs.State.{State, overflow, stackFull}
 use Rattle.machine.specs.Environment.{Environment}
-use Rattle.machine.specs.Step.{Request, halt, ask, stackLimit, atom, keyOf, decide, consult, making, outputting}
+use Rattle.machine.specs.Step.{Request, stackLimit, atom, making, outputting}
 use Rattle.machine.specs.Step.{withValue, calling, request, execute}
 use Rattle.machine.specs.Run.{step}
 use Rattle.machine.specs.Call.{Calls, plain, counted, Path, here, next, Inside, Brought, Returned, Called, CallReturns}
 use Rattle.machine.proofs.Barrier.{barred-all}
 use Rattle.machine.proofs.Request.{Values, none, more, value-all, values-all, arguments-all, frame-all, cell-all, provided-all}
-use Rattle.machine.proofs.Step.{Gives, gives-stepped, step-all}
+use Rattle.machine.proofs.Step.{Gives, gives-stepped, Leaves, consult-leaves, step-all}
 
 -- ════════════════════════════════════════════════════════════════════════════════════════════
 -- One step, with a frame on the stack
@@ -69,8 +69,7 @@ module _ (owes : Bool) (a : Atom) (rest : List Entry) where
 
   module _ (s : State) (u : Under (s .stack)) where
     abbrev Goes : Request → Type 0
-    Goes (halt x) = Unit
-    Goes (ask l1 l2 l3 k) = (p r : ℕ) → Gives After (k p r)
+    Goes = Leaves After
 
     value-goes : (k : Atom → List Entry → Request) → ((b : Atom) (below : List Entry) → Under below → Goes (k b below))
         → (es : List Entry) → Under es → Goes (withValue es k)
@@ -124,18 +123,10 @@ module _ (owes : Bool) (a : Atom) (rest : List Entry) where
         by b under w (inl v) = inl (over _ v)
         by b under w (inr (o, d, g)) = inr (ap (λ (x : Atom). x .number) d, rw (← o) (w, rw g))
 
-    consult-goes : (π : Policy) (c : Command) (q : Request) → Goes q → Gives After (consult π c s q)
-    consult-goes π c (halt x) g = tt
-    consult-goes π c (ask l1 l2 l3 k) g = go (π (keyOf c s l1 l2 l3))
-      where
-        go : (v : Verdict) → Gives After (decide v k)
-        go denied = tt
-        go (allowed p r) = g p r
-
     step-goes : (π : Policy) (env : Environment) (cs : List Command) → Gives After (step π env cs s)
     unfolding execute
     step-goes π env cs =
-        step-all π env s (Gives After) cs (λ c at. consult-goes π c (request env c s) (request-goes env c)) (λ e. tt)
+        step-all π env s (Gives After) cs (λ c at. consult-leaves After π c s (request env c s) (request-goes env c)) (λ e. tt)
 
   -- ══════════════════════════════════════════════════════════════════════════════════════════
   -- Many steps
@@ -167,8 +158,7 @@ module _ (owes : Bool) (a : Atom) (rest : List Entry) where
 
 module _ (s : State) (n results : ℕ) where
   abbrev Enters : Request → Type 0
-  Enters (halt x) = Unit
-  Enters (ask l1 l2 l3 k) = (p r : ℕ) → Gives (λ t. Called s t n results) (k p r)
+  Enters = Leaves (λ t. Called s t n results)
 
   calling-enters : Enters (calling s n results)
   calling-enters =
@@ -186,20 +176,12 @@ module _ (s : State) (n results : ℕ) where
         entered = refl;
       }))
 
-  consult-enters : (π : Policy) (c : Command) (q : Request) → Enters q → Gives (λ t. Called s t n results) (consult π c s q)
-  consult-enters π c (halt x) g = tt
-  consult-enters π c (ask l1 l2 l3 k) g = go (π (keyOf c s l1 l2 l3))
-    where
-      go : (v : Verdict) → Gives (λ t. Called s t n results) (decide v k)
-      go denied = tt
-      go (allowed p r) = g p r
-
 call-enters : (π : Policy) (env : Environment) (c : Command) (n results : ℕ) (s : State) → Calls c n results
     → Gives (λ t. Called s t n results) (execute π env c s)
 unfolding execute request
-call-enters π env c n results s plain = consult-enters s 1 0 π Call (calling s 1 0) (calling-enters s 1 0)
+call-enters π env c n results s plain = consult-leaves _ π Call s (calling s 1 0) (calling-enters s 1 0)
 call-enters π env c n results s (counted {z}) =
-    consult-enters s (argumentsOf z) (resultsOf z) π (CallN z) (calling s (argumentsOf z) (resultsOf z)) (calling-enters s (argumentsOf z) (resultsOf z))
+    consult-leaves _ π (CallN z) s (calling s (argumentsOf z) (resultsOf z)) (calling-enters s (argumentsOf z) (resultsOf z))
 
 -- what follows it
 module _ (env : Environment) (cs : List Command) (s t : State) (n results : ℕ) (called : Called s t n results) (u : State) where

@@ -12,17 +12,17 @@ use Rattle.program.specs.Command.{argumentsOf, resultsOf}
 use Rattle.program.specs.declared.Command.the-variants.{Add, Sub, Pop, Output, Push, Load, Store, Jump, Bnz, Call, Ret, OutputTo, CallN, RetV}
 use Rattle.word.specs.Exact.{isSigned}
 use Rattle.machine.specs.Atom.{Line, numberLine, endLine}
-use Rattle.machine.specs.Rule.{Verdict, denied, allowed, Policy, Ruler, rules}
+use Rattle.machine.specs.Rule.{Ruler, rules}
 use Rattle.machine.specs.State.{State, overflow, stackFull}
 use Rattle.machine.specs.Environment.{Environment, cleared}
-use Rattle.machine.specs.Step.{Request, halt, ask, stackLimit, keyOf, decide, consult, making, outputting, calling, request}
+use Rattle.machine.specs.Step.{Request, stackLimit, making, outputting, calling, request}
 use Rattle.machine.specs.Step.{execute}
 use Rattle.machine.specs.Run.{run}
 use Rattle.machine.specs.Stopped.{CommandAt, Writes, plain, to}
 use Rattle.machine.specs.Holds.{Each}
 use Rattle.machine.proofs.Barrier.{barrier-held, barred-none, barred-all}
 use Rattle.machine.proofs.Request.{value-all, values-all, arguments-all, frame-all, cell-all, provided-all}
-use Rattle.machine.proofs.Step.{Gives, gives-stepped, step-all, run-keeps}
+use Rattle.machine.proofs.Step.{Gives, gives-stepped, Leaves, consult-leaves, step-all, run-keeps}
 use Rattle.machine.proofs.Holds.{each-snoc}
 
 module _ (P : Line → Type 0) where
@@ -31,8 +31,7 @@ module _ (P : Line → Type 0) where
 
   module _ (s : State) (h : Lines s) where
     abbrev Keeps : Request → Type 0
-    Keeps (halt x) = Unit
-    Keeps (ask l1 l2 l3 k) = (p r : ℕ) → Gives Lines (k p r)
+    Keeps = Leaves Lines
 
     making-lines : (make : ℤ → ℤ → ℤ) → Keeps (making s make)
     making-lines make =
@@ -73,14 +72,6 @@ module _ (P : Line → Type 0) where
     request-lines env RetV f =
         value-all Keeps (s .stack) _ tt (λ v below e. frame-all Keeps true below _ tt tt (λ a rest g p r. h))
 
-    consult-lines : (π : Policy) (c : Command) (q : Request) → Keeps q → Gives Lines (consult π c s q)
-    consult-lines π c (halt x) g = tt
-    consult-lines π c (ask l1 l2 l3 k) g = go (π (keyOf c s l1 l2 l3))
-      where
-        go : (v : Verdict) → Gives Lines (decide v k)
-        go denied = tt
-        go (allowed p r) = g p r
-
   -- and of the end line, holds of every line of a run
   pub run-each : {R : Type 0} (ρ : Ruler R) (env : Environment) (cs : List Command)
       → ((z : ℤ) (c : Command) → CommandAt cs z c → (page : ℤ) → Writes c page → (n : ℤ) (l : ℕ)
@@ -92,6 +83,6 @@ module _ (P : Line → Type 0) where
       run-keeps ρ env cs Lines
       (λ s t u at e g. gives-stepped Lines e
       (step-all (rules ρ u) env s (Gives Lines) cs
-      (λ c at. consult-lines s g (rules ρ u) c (request env c s) (request-lines s g env c (f (s .pc .number) c at)))
+      (λ c at. consult-leaves Lines (rules ρ u) c s (request env c s) (request-lines s g env c (f (s .pc .number) c at)))
       (λ e. tt)))
       (λ s at e g. each-snoc P (s .lines) _ g (ends (s .pc .label) (barred-none env _ _ (barrier-held env _ _ e) .0))) fuel s u h

@@ -11,7 +11,7 @@ use Rattle.program.specs.declared.Command.{Command}
 use Rattle.machine.specs.Rule.{Key, Verdict, denied, allowed, Policy, Ruler, rules, fixed, standard}
 use Rattle.machine.specs.Environment.{Environment}
 use Rattle.machine.specs.State.{State, Stop, end, fuelSpent, pcOutside}
-use Rattle.machine.specs.Step.{Outcome, stopped, stepped, Request, halt, ask, decide, consult, execute, request}
+use Rattle.machine.specs.Step.{Outcome, stopped, stepped, Request, halt, ask, keyOf, decide, consult, execute, request}
 use Rattle.machine.specs.Run.{commandAt, executeSome, step, askedBy, askedSome, asked, atEnd, Result, result, after, closed}
 use Rattle.machine.specs.Run.{finish, endBarrier, unlessEnd, run}
 use Rattle.machine.specs.Stopped.{CommandAt, NoCommandAt}
@@ -23,6 +23,19 @@ Gives P (stepped t) = P t
 
 pub gives-stepped : (P : State → Type 0) {o : Outcome} {t : State} → o ≡ stepped t → Gives P o → P t
 gives-stepped P e g = rw e at g
+
+-- the same of what a command comes to before its rule, whatever two labels the rule gives
+abbrev pub Leaves : (State → Type 0) → Request → Type 0
+Leaves P (halt x) = Unit
+Leaves P (ask l1 l2 l3 k) = (p r : ℕ) → Gives P (k p r)
+
+pub consult-leaves : (P : State → Type 0) (π : Policy) (c : Command) (s : State) (q : Request) → Leaves P q → Gives P (consult π c s q)
+consult-leaves P π c s (halt x) g = tt
+consult-leaves P π c s (ask l1 l2 l3 k) g = go (π (keyOf c s l1 l2 l3))
+  where
+    go : (v : Verdict) → Gives P (decide v k)
+    go denied = tt
+    go (allowed p r) = g p r
 
 -- a step and what it leaves of a ruler, by cases: the command at the place, or there is none
 pub step-both : {R : Type 0} (ρ : Ruler R) (π : Policy) (env : Environment) (s : State) (u : R) (P : Outcome → R → Type 0) (cs : List Command)
