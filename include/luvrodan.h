@@ -28,8 +28,6 @@ extern "C" {
 #define LUVRODAN_FUEL_LIMIT 1000000      /* allowance: steps of a run */
 #define LUVRODAN_STACK_WORDS 768         /* 256 stack entries of three words: kind, number, label */
 #define LUVRODAN_RULE_MEMORY_WORDS 7     /* code, P, L1, L2, L3, new place label, result label */
-#define LUVRODAN_ROW_COUNT 64            /* rows of the rule memory of luvrodan_rows: their numbers are 0 to 63 */
-#define LUVRODAN_ROWS_WORDS 448          /* all of these rows, seven words each */
 #define LUVRODAN_PROGRAM_WORDS 8192      /* enough for any sheet: two words a command: code, operand or 0 */
 #define LUVRODAN_HANDLER_WORDS 16384     /* enough for any handler: two words a command */
 #define LUVRODAN_PAGE_COUNT 16           /* pages of a run: their numbers are 0 to 15; a clearance word for each */
@@ -52,7 +50,7 @@ enum {
     LUVRODAN_REFUSED_CELLS = 4,          /* runs of cells that differ in length (the shorter), or over 1,024 (1,024) */
     LUVRODAN_REFUSED_LABEL = 5,          /* a label word outside 0 to 2^32-1; position: the first such cell */
     LUVRODAN_REFUSED_TABLE = 6,          /* no rule table; position: 512 where it is longer, else the first faulty byte */
-    LUVRODAN_REFUSED_RULE_MEMORY = 7,    /* not 7 words (0) or 448 (64), else the first row neither empty nor allowed */
+    LUVRODAN_REFUSED_RULE_MEMORY = 7,    /* neither empty nor an allowed row of this table, or not seven words; 0 */
     LUVRODAN_REFUSED_SPACE = 8,          /* too short: 1 program, 2 stack, 3 handler, the first such; 4 output buffer */
     LUVRODAN_REFUSED_FUEL = 9,           /* an allowance over 1,000,000; 0 */
     LUVRODAN_REFUSED_LINE = 10,          /* not a command and its operands; position: the text's line, from 1 */
@@ -175,50 +173,6 @@ luvrodan_result luvrodan_tagged(const uint8_t *sheet, size_t sheet_length,
                                 int64_t *kinds, size_t kind_count,
                                 int64_t *pages, size_t page_count,
                                 uint64_t fuel);
-
-/*
- * What a run of luvrodan_rows came to. turn is the row whose turn it is at the end, 0 to 63; where run.refusal is not 0
- * it is 0.
- */
-typedef struct {
-    luvrodan_result run;
-    uint64_t turn;
-} luvrodan_rows_result;
-
-/*
- * Runs a sheet on the tag engine that has 64 rows, under the rules of a table.
- *
- * As luvrodan_tagged, but for the rule memory. rule_memory: exactly LUVRODAN_ROWS_WORDS words, row 0's seven first,
- * read at the start and written at the end; a row of seven zeros is empty. Rows may be alike, and empty ones may stand
- * anywhere. The rows are searched from row 0 on, and the first whose first five words are those of the command is used.
- * Where there is none it is a fault: the row whose turn it is, empty or not, is overwritten, and the handler works on
- * that row. A run starts with row 0's turn. Each fault moves the turn on, from row 63 to row 0; so does one that is
- * stop 6, which leaves its row with the -1 pair. A match moves nothing.
- *
- * Lines, cells, stop and steps are those of luvrodan_tagged, for every table and every rule memory that the two accept;
- * faults and kernel_steps are the engine's own.
- *
- * Refusals, in this order: 1, 2, 3, 12, 14 (sheet), 4, 5 (cells), 13 (clearances), 6 (rules), 7 (rule memory: at 64
- * another number of words than 448, then at its number the first row that is neither empty nor an allowed row of this
- * table), 8 at 1, 2 or 3 (spaces), 9 (allowance). A refused call changes no lent word.
- *
- * After an accepted run handler holds the table's handler from its start, with words beyond as they came, and
- * rule_memory the 64 rows.
- */
-luvrodan_rows_result luvrodan_rows(const uint8_t *sheet, size_t sheet_length,
-                                   int64_t *values, size_t value_count,
-                                   int64_t *labels, size_t label_count,
-                                   const int64_t *clearances, size_t clearance_count,
-                                   const uint8_t *table, size_t table_length,
-                                   int64_t *rule_memory, size_t rule_memory_words,
-                                   int64_t *program, size_t program_words,
-                                   int64_t *stack, size_t stack_words,
-                                   int64_t *handler, size_t handler_words,
-                                   int64_t *numbers, size_t number_count,
-                                   int64_t *line_labels, size_t line_label_count,
-                                   int64_t *kinds, size_t kind_count,
-                                   int64_t *pages, size_t page_count,
-                                   uint64_t fuel);
 
 /* How many kernel commands the handler of this table has, 1 to 8,192; 0 where the bytes are no rule table. */
 uint64_t luvrodan_handler_count(const uint8_t *table, size_t table_length);

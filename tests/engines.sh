@@ -24,14 +24,6 @@ cc -std=c99 -Wall -Wextra -Werror -I include examples/embed.c "$LUVRODAN_ARCHIVE
 "$out/embed" > "$out/c"
 cmp "$out/page" "$out/c"
 
-# a busy sheet on one row and on 64, each twice
-printf '%s\n' 'one row: stop 0, 63 steps, 56 faults' 'one row: stop 0, 63 steps, 56 faults' \
-    "64 rows: stop 0, 63 steps, 5 faults, row 5's turn" "64 rows: stop 0, 63 steps, 0 faults, row 0's turn" \
-    > "$out/faults"
-cc -std=c99 -Wall -Wextra -Werror -I include examples/rows.c "$LUVRODAN_ARCHIVE" -lm -o "$out/rows"
-"$out/rows" > "$out/c"
-cmp "$out/faults" "$out/c"
-
 # the berth with page 1 closed to owner 1's data, and not; the README shows it too
 printf '%s\n' 'page 1 cleared for owner 0' '0 412 00000000' '1 1397 00000001' 'stop 10: line not cleared for its page' \
     'page 1 cleared for owners 0 and 1' '0 412 00000000' '1 1397 00000001' '1 217 00000003' '0 end 00000000' 'stop 0: the end' \

@@ -2,7 +2,6 @@
 //! a reader and a lister of texts, which `tests/agree.rs` holds to the model; and the sheets that all of them are given.
 
 pub mod fast;
-pub mod rows;
 pub mod safe;
 pub mod tags;
 pub mod text;

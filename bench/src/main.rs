@@ -4,7 +4,7 @@
 //! all of them alike.
 
 use bench::workloads::{all, berth, idle, texts, walk, Workload};
-use bench::{fast, rows, safe, tags, text};
+use bench::{fast, safe, tags, text};
 use differential::text::{Texts, Written};
 use model::engine::{Lent, Report, CLEARED_FOR_ALL};
 use model::rules::STANDARD;
@@ -37,44 +37,19 @@ fn now() -> f64 {
     time.seconds as f64 * 1e9 + time.nanoseconds as f64
 }
 
-/// What a run counted; what is not of its engine is 0.
-#[derive(Clone, Copy, Debug, Default, PartialEq, Eq)]
-struct Counts {
-    steps: u64,
-    faults: u64,
-    kernel_steps: u64,
-    turn: u64,
-}
-
-impl Counts {
-    fn a_step(&self, count: u64) -> f64 {
-        count as f64 / self.steps as f64
-    }
-}
-
 /// Runs a sheet on lent memory, under clearances, with an allowance; the tag engines find the handler's words there.
-type Runner<'a> = Box<dyn Fn(&[u8], &mut Lent, &[i64], u64) -> Counts + 'a>;
+type Runner<'a> = Box<dyn Fn(&[u8], &mut Lent, &[i64], u64) -> [u64; 3] + 'a>;
 
 struct Contestant<'a> {
     name: &'static str,
-    /// How many rows of a rule memory it is lent.
-    rows: usize,
     run: Runner<'a>,
-}
-
-impl Contestant<'_> {
-    /// The rule memory in these lent words becomes this engine's, with empty rows.
-    fn lend(&self, mut lent: Lent) -> Lent {
-        lent.rule_memory = vec![0; 7 * self.rows];
-        lent
-    }
 }
 
 /// A reader and lister, by name.
 type Converter = (&'static str, &'static dyn Texts);
 
-fn counts(report: Report) -> Counts {
-    Counts { steps: report.steps, faults: report.faults, kernel_steps: report.kernel_steps, turn: 0 }
+fn counts(report: Report) -> [u64; 3] {
+    [report.steps, report.faults, report.kernel_steps]
 }
 
 const ACCEPTED: &str = "nothing breaks a limit";
@@ -85,35 +60,24 @@ mod engine {
     use differential::backend::{Answer, Backend};
     use differential::engine::Engine;
 
-    fn counts(answer: Answer) -> Counts {
+    fn counts(answer: Answer) -> [u64; 3] {
         let [refusal, _, _, steps, _, _, _, _, faults, kernel_steps] = answer.words;
         assert_eq!(refusal, 0, "{ACCEPTED}");
-        Counts { steps, faults, kernel_steps, turn: 0 }
+        [steps, faults, kernel_steps]
     }
 
     pub fn contestants<'a>() -> Vec<Contestant<'a>> {
         vec![
             Contestant {
                 name: PLAIN,
-                rows: 1,
                 run: Box::new(|sheet, lent, clearances, fuel| {
                     counts(Engine.plain(sheet, lent, clearances, fuel))
                 }),
             },
             Contestant {
                 name: TAGGED,
-                rows: 1,
                 run: Box::new(|sheet, lent, clearances, fuel| {
                     counts(Engine.tagged(sheet, &STANDARD, lent, clearances, fuel))
-                }),
-            },
-            Contestant {
-                name: ROWS,
-                rows: rows::ROWS,
-                run: Box::new(|sheet, lent, clearances, fuel| {
-                    let answer =
-                        Engine.rows(sheet, &STANDARD, lent, clearances, fuel).expect("the archive has it");
-                    Counts { turn: answer.turn, ..counts(answer.run) }
                 }),
             },
         ]
@@ -155,68 +119,51 @@ mod engine {
 
 const PLAIN: &str = "plain engine";
 const TAGGED: &str = "tag engine";
-const ROWS: &str = "64 rows";
 const SAFE: &str = "safe Rust";
 const FAST: &str = "fast Rust";
 const TAGS: &str = "Rust tags";
-const RUST_ROWS: &str = "Rust 64 rows";
 const LUA: &str = "Lua 5.4";
 
 fn contestants<'a>(handler: &'a [i64]) -> Vec<Contestant<'a>> {
     let mut list = engine::contestants();
     list.push(Contestant {
         name: SAFE,
-        rows: 1,
         run: Box::new(|sheet, lent, clearances, fuel| {
             counts(safe::plain(sheet, lent, clearances, fuel).expect(ACCEPTED))
         }),
     });
     list.push(Contestant {
         name: FAST,
-        rows: 1,
         run: Box::new(|sheet, lent, clearances, fuel| {
             counts(fast::plain(sheet, lent, clearances, fuel).expect(ACCEPTED))
         }),
     });
     list.push(Contestant {
         name: TAGS,
-        rows: 1,
         run: Box::new(|sheet, lent, clearances, fuel| {
             let report = tags::tagged(sheet, &STANDARD, handler.len() / 2, lent, clearances, fuel);
             counts(report.expect(ACCEPTED))
         }),
     });
-    list.push(Contestant {
-        name: RUST_ROWS,
-        rows: rows::ROWS,
-        run: Box::new(|sheet, lent, clearances, fuel| {
-            let answer = rows::rows(sheet, &STANDARD, handler.len() / 2, lent, clearances, fuel);
-            let (report, turn) = answer.expect(ACCEPTED);
-            Counts { turn: turn as u64, ..counts(report) }
-        }),
-    });
     list
 }
 
-/// Holds the contestants to one another, outside the time: to the same steps and lent words, and tag engines of as many
-/// rows also to the same counts and rule memory, which they alone write.
+/// Holds the contestants to one another, outside the time: to the same steps and lent words, and the tag engines also to
+/// the same counts and rule memory, which they alone write.
 fn hold_together(contestants: &[Contestant], workload: &Workload, handler: &[i64]) {
-    let (mut first, mut first_row, mut first_rows) = (None, None, None);
+    let (mut first, mut first_tags) = (None, None);
     for contestant in contestants {
-        let mut lent = contestant.lend(workload.lent(handler));
+        let mut lent = workload.lent(handler);
         let counts = (contestant.run)(&workload.sheet, &mut lent, &workload.clearances, FUEL);
         let rule_memory = std::mem::take(&mut lent.rule_memory);
-        let words = (counts.steps, lent);
+        let words = (counts[0], lent);
         let agree = *first.get_or_insert_with(|| words.clone()) == words;
         assert!(agree, "{} {}: other words than {}", contestant.name, workload.name, contestants[0].name);
-        let first_tags = match contestant.name {
-            TAGGED | TAGS => &mut first_row,
-            ROWS | RUST_ROWS => &mut first_rows,
-            _ => continue,
-        };
-        let tags = (counts, rule_memory);
-        let agree = *first_tags.get_or_insert_with(|| tags.clone()) == tags;
-        assert!(agree, "{} {}: the tag engines differ", contestant.name, workload.name);
+        if [TAGGED, TAGS].contains(&contestant.name) {
+            let tags = (counts, rule_memory);
+            let agree = *first_tags.get_or_insert_with(|| tags.clone()) == tags;
+            assert!(agree, "{} {}: the tag engines differ", contestant.name, workload.name);
+        }
     }
 }
 
@@ -224,17 +171,17 @@ struct Measured {
     name: &'static str,
     /// Nanoseconds a step, of the best round.
     time: f64,
-    counts: Counts,
+    counts: [u64; 3],
 }
 
 /// The best time of each contestant on a workload, and what the run counted.
 fn measure(contestants: &[Contestant], workload: &Workload, handler: &[i64], fuel: u64) -> Vec<Measured> {
     let mut measured: Vec<Measured> = (contestants.iter())
-        .map(|contestant| Measured { name: contestant.name, time: f64::INFINITY, counts: Counts::default() })
+        .map(|contestant| Measured { name: contestant.name, time: f64::INFINITY, counts: [0; 3] })
         .collect();
     for _ in 0..ROUNDS {
         for (contestant, measured) in contestants.iter().zip(&mut measured) {
-            let mut lent = contestant.lend(workload.lent(handler));
+            let mut lent = workload.lent(handler);
             let began = now();
             let counts = (contestant.run)(
                 black_box(&workload.sheet),
@@ -244,11 +191,7 @@ fn measure(contestants: &[Contestant], workload: &Workload, handler: &[i64], fue
             );
             let time = (now() - began) / fuel as f64;
             black_box(&lent);
-            assert_eq!(
-                counts.steps, fuel,
-                "{} {}: the allowance ends the run",
-                contestant.name, workload.name
-            );
+            assert_eq!(counts[0], fuel, "{} {}: the allowance ends the run", contestant.name, workload.name);
             measured.counts = counts;
             measured.time = measured.time.min(time);
         }
@@ -278,7 +221,7 @@ fn print_speeds(handler: &[i64], contestants: &[Contestant]) {
     for contestant in contestants {
         print!(" {:>13}", contestant.name);
     }
-    println!(" {LUA:>13} {:>13} {:>13} {:>13}", "faults/step", "kernel/step", "of 64 rows");
+    println!(" {LUA:>13} {:>13} {:>13}", "faults/step", "kernel/step");
     let mut tables = Vec::new();
     for workload in all() {
         let mut measured = measure(contestants, &workload, handler, FUEL);
@@ -288,17 +231,11 @@ fn print_speeds(handler: &[i64], contestants: &[Contestant]) {
         }
         let lua = lua(&workload);
         print!(" {:>13}", lua.map_or("-".into(), |time| format!("{:.1}", 1e3 / time)));
-        let [one_row, rows] = [TAGS, RUST_ROWS].map(|name| {
-            measured.iter().find(|one| one.name == name).expect("what is in Rust is always there").counts
-        });
-        println!(
-            " {:>13.3} {:>13.2} {:>13.6}",
-            one_row.a_step(one_row.faults),
-            one_row.a_step(one_row.kernel_steps),
-            rows.a_step(rows.faults)
-        );
+        let [steps, faults, kernel] =
+            measured.iter().find(|one| one.name == TAGS).map_or([1, 0, 0], |one| one.counts);
+        println!(" {:>13.3} {:>13.2}", faults as f64 / steps as f64, kernel as f64 / steps as f64);
         if let Some(time) = lua {
-            measured.push(Measured { name: LUA, time, counts: Counts::default() });
+            measured.push(Measured { name: LUA, time, counts: [0; 3] });
         }
         tables.push((workload.name, measured));
     }
@@ -313,9 +250,6 @@ fn print_ratios(tables: &[(&str, Vec<Measured>)]) {
         (PLAIN, LUA),
         (TAGGED, TAGS),
         (TAGGED, PLAIN),
-        (ROWS, TAGGED),
-        (ROWS, RUST_ROWS),
-        (ROWS, PLAIN),
         (TAGS, SAFE),
         (FAST, SAFE),
     ];
@@ -337,17 +271,14 @@ fn print_ratios(tables: &[(&str, Vec<Measured>)]) {
 }
 
 /// Nanoseconds of the best of several runs of a sheet that is over soon, repeated within each run. Every page is cleared
-/// for all. Each repeat finds an empty rule memory, or what the one before left in it.
-fn short_time(contestant: &Contestant, sheet: &[u8], lent: &Lent, fuel: u64, empty: bool) -> f64 {
+/// for all.
+fn short_time(contestant: &Contestant, sheet: &[u8], lent: &Lent, fuel: u64) -> f64 {
     const REPEATS: usize = 200;
-    let mut lent = contestant.lend(lent.clone());
+    let mut lent = lent.clone();
     let mut best = f64::INFINITY;
     for _ in 0..ROUNDS {
         let began = now();
         for _ in 0..REPEATS {
-            if empty {
-                lent.rule_memory.fill(0);
-            }
             black_box((contestant.run)(black_box(sheet), &mut lent, black_box(&CLEARED_FOR_ALL), fuel));
         }
         best = best.min((now() - began) / REPEATS as f64);
@@ -388,24 +319,21 @@ fn print_growth(handler: &[i64], contestants: &[Contestant]) {
     for commands in [16, 256, 4096] {
         let workload = Workload { sheet: idle(commands), ..walk(2) };
         let lent = workload.lent(handler);
-        let time = |contestant: &Contestant| {
-            short_time(contestant, &workload.sheet, &lent, 0, true) / commands as f64
-        };
+        let time =
+            |contestant: &Contestant| short_time(contestant, &workload.sheet, &lent, 0) / commands as f64;
         row(format!("{commands} commands"), contestants.iter().map(time).collect());
     }
     header("start with no step: ns/cell");
     for cells in [32, 1024] {
         let lent = Workload { lines: 1, ..walk(cells) }.lent(handler);
-        let time = |contestant: &Contestant| short_time(contestant, &[], &lent, 0, true) / cells as f64;
+        let time = |contestant: &Contestant| short_time(contestant, &[], &lent, 0) / cells as f64;
         row(format!("{cells} cells"), contestants.iter().map(time).collect());
     }
     header("a run to its end line: ns");
     let berth = berth();
     let lent = berth.lent(handler);
-    for (name, empty) in [("berth: 26 steps, 4 lines", true), ("with the rule memory kept", false)] {
-        let time = |contestant: &Contestant| short_time(contestant, &berth.sheet, &lent, FUEL, empty);
-        row(name.into(), contestants.iter().map(time).collect());
-    }
+    let time = |contestant: &Contestant| short_time(contestant, &berth.sheet, &lent, FUEL);
+    row("berth: 26 steps, 4 lines".into(), contestants.iter().map(time).collect());
 }
 
 /// Reads or lists.

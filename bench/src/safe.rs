@@ -130,7 +130,7 @@ pub fn plain(sheet: &[u8], lent: &mut Lent, clearances: &[i64], fuel: u64) -> Re
 }
 
 /// Whether the entry `below` the top is of this kind.
-pub fn is(kind: i64, stack: &[i64], depth: usize, below: usize) -> bool {
+fn is(kind: i64, stack: &[i64], depth: usize, below: usize) -> bool {
     depth > below && stack[3 * (depth - 1 - below)] == kind
 }
 

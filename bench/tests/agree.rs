@@ -2,8 +2,8 @@
 
 use bench::text::{Fast, Straightforward};
 use bench::workloads::{all, berth};
-use bench::{fast, rows, safe, tags};
-use differential::backend::{Answer, Backend, Itself, RowsAnswer};
+use bench::{fast, safe, tags};
+use differential::backend::{Answer, Backend, Itself};
 use differential::compare::compare_case;
 use differential::tally::Tally;
 use differential::text::{edge_cases, tally, text_case, Texts};
@@ -12,28 +12,9 @@ use model::machine::Stop;
 use model::rules::{Table, STANDARD};
 use model::sample::Sample;
 use model::sheet::{encode, Command, Command::*, ARGUMENTS, PAGES};
-use model::{Atom, Label, Refusal};
+use model::{Atom, Label};
 
-/// Runs a tag engine with the handler of a table, of so many commands, in place; a refusal leaves the space as it came.
-fn with_handler<T>(
-    table: &[u8],
-    lent: &mut Lent,
-    run: impl Fn(usize, &mut Lent) -> Result<T, Refusal>,
-) -> Result<T, Refusal> {
-    let sample = Table::parse(table).map_or(Sample::default(), |table| Sample::of(&table));
-    let handler = sample.handler();
-    let before = lent.handler.clone();
-    if let Some(space) = lent.handler.get_mut(..2 * handler.count) {
-        space.copy_from_slice(handler.words);
-    }
-    let answer = run(handler.count, lent);
-    if answer.is_err() {
-        lent.handler = before;
-    }
-    answer
-}
-
-/// One of the two interpreters with the tag engines in Rust.
+/// One of the two interpreters with the tag engine in Rust.
 struct InRust {
     fast: bool,
 }
@@ -48,22 +29,17 @@ impl Backend for InRust {
     }
 
     fn tagged(&self, sheet: &[u8], table: &[u8], lent: &mut Lent, clearances: &[i64], fuel: u64) -> Answer {
-        let run = |count, lent: &mut Lent| tags::tagged(sheet, table, count, lent, clearances, fuel);
-        with_handler(table, lent, run).into()
-    }
-
-    fn rows(
-        &self,
-        sheet: &[u8],
-        table: &[u8],
-        lent: &mut Lent,
-        clearances: &[i64],
-        fuel: u64,
-    ) -> Option<RowsAnswer> {
-        let run = |count, lent: &mut Lent| rows::rows(sheet, table, count, lent, clearances, fuel);
-        let answer = with_handler(table, lent, run);
-        let turn = answer.as_ref().map_or(0, |&(_, turn)| turn as u64);
-        Some(RowsAnswer { run: answer.map(|(report, _)| report).into(), turn })
+        let sample = Table::parse(table).map_or(Sample::default(), |table| Sample::of(&table));
+        let handler = sample.handler();
+        let before = lent.handler.clone();
+        if let Some(space) = lent.handler.get_mut(..2 * handler.count) {
+            space.copy_from_slice(handler.words);
+        }
+        let answer = tags::tagged(sheet, table, handler.count, lent, clearances, fuel);
+        if answer.is_err() {
+            lent.handler = before;
+        }
+        answer.into()
     }
 
     fn handler_count(&self, table: &[u8]) -> u64 {
@@ -82,24 +58,21 @@ fn interpreters_agree_with_the_model() {
         for case in 0..20_000 {
             compare_case(&InRust { fast }, 3, case, &mut tally).unwrap();
         }
-        for engine in [tally.plain, tally.tagged, tally.rows] {
+        for engine in [tally.plain, tally.tagged] {
             assert!(engine.stops.iter().all(|&count| count > 0), "{:?}", engine.stops);
         }
     }
 }
 
-/// Holds the interpreters to the model on one start, answers and all lent words, with the row that is lent 64 times for
-/// the tag engine of 64 rows: the answers of the plain and the tagged.
+/// Holds the interpreters to the model on one start, answers and all lent words: the answers of the plain and the tagged.
 fn hold(sheet: &[u8], lent: &Lent, clearances: &[i64], fuel: u64, what: &str) -> [Answer; 2] {
     let run = |backend: &dyn Backend| {
         let (mut plain, mut tagged) = (lent.clone(), lent.clone());
-        let mut rows = Lent { rule_memory: lent.rule_memory.repeat(rows::ROWS), ..lent.clone() };
         let answers = [
             backend.plain(sheet, &mut plain, clearances, fuel),
             backend.tagged(sheet, &STANDARD, &mut tagged, clearances, fuel),
         ];
-        let of_rows = backend.rows(sheet, &STANDARD, &mut rows, clearances, fuel);
-        (answers, of_rows, plain, tagged, rows)
+        (answers, plain, tagged)
     };
     let model = run(&Itself);
     for fast in [false, true] {

@@ -1,6 +1,6 @@
 //! Refusals and stops by name.
 
-use crate::sys::{RawResult, RawRowsResult, RawWritten};
+use crate::sys::{RawResult, RawWritten};
 use std::error::Error;
 use std::fmt;
 
@@ -54,11 +54,8 @@ pub enum Refusal {
     RuleTable {
         offset: u64,
     },
-    /// A row of the rule memory that is neither empty nor an allowed row of the table, of 64 the first such; or another
-    /// number of words than seven (0), for 64 rows than 448 (64).
-    RuleMemory {
-        row: u64,
-    },
+    /// A rule memory that is neither empty nor an allowed row of the table.
+    RuleMemory,
     ShortSpace(Space),
     /// An allowance over 1,000,000.
     Allowance,
@@ -112,14 +109,6 @@ pub struct Report {
     pub kernel_steps: u64,
 }
 
-/// What an accepted run on the engine of 64 rows came to.
-#[derive(Clone, Copy, Debug, PartialEq, Eq)]
-pub struct RowsReport {
-    pub run: Report,
-    /// The row whose turn it is, which one fault more would overwrite: 0 to 63. The next run starts with row 0's.
-    pub turn: usize,
-}
-
 impl Refusal {
     /// The refusal's number, as docs/MANUAL.md lists them.
     pub fn number(self) -> u64 {
@@ -130,7 +119,7 @@ impl Refusal {
             Refusal::CellCount { .. } => 4,
             Refusal::LabelOutside { .. } => 5,
             Refusal::RuleTable { .. } => 6,
-            Refusal::RuleMemory { .. } => 7,
+            Refusal::RuleMemory => 7,
             Refusal::ShortSpace(_) => 8,
             Refusal::Allowance => 9,
             Refusal::BadLine { .. } => 10,
@@ -154,8 +143,7 @@ impl Refusal {
             Refusal::LabelOutside { cell } => cell,
             Refusal::Clearance { page } => page,
             Refusal::ShortSpace(space) => space as u64,
-            Refusal::RuleMemory { row } => row,
-            Refusal::Allowance => 0,
+            Refusal::RuleMemory | Refusal::Allowance => 0,
             Refusal::TooManyLines { line } | Refusal::BadLine { line } | Refusal::OperandOutside { line } => {
                 line
             }
@@ -217,13 +205,6 @@ impl RawResult {
     }
 }
 
-impl RawRowsResult {
-    /// The answer by name, as [`RawResult::named`].
-    pub fn named(self) -> Result<RowsReport, Refusal> {
-        Ok(RowsReport { run: self.run.named()?, turn: self.turn as usize })
-    }
-}
-
 impl RawWritten {
     /// What listing a sheet came to: the text's length, or the refusal by name.
     pub fn listed(self) -> Result<usize, Refusal> {
@@ -250,7 +231,7 @@ fn refusal(number: u64, place: u64) -> Refusal {
         4 => Refusal::CellCount { place },
         5 => Refusal::LabelOutside { cell: place },
         6 => Refusal::RuleTable { offset: place },
-        7 => Refusal::RuleMemory { row: place },
+        7 => Refusal::RuleMemory,
         8 => Refusal::ShortSpace(match place {
             1 => Space::Program,
             2 => Space::Stack,

@@ -1,9 +1,9 @@
 //! The labelled sheet machine, for Rust programs: the proved engines behind safe functions. docs/MANUAL.md describes it.
 //!
-//! [`Machine`] owns all memory and is the easy way; [`plain`], [`tagged`] and [`rows`] run on memory that the caller
-//! lends; [`page`] makes a page of a job. [`Clearances`] say which owners' data each page may show. A start that breaks
-//! a limit is a [`Refusal`] and changes nothing; any other run ends with a [`Stop`]. [`assemble`] makes a sheet of a
-//! text, [`list`] a text of a sheet.
+//! [`Machine`] owns all memory and is the easy way; [`plain`] and [`tagged`] run on memory that the caller lends;
+//! [`page`] makes a page of a job. [`Clearances`] say which owners' data each page may show. A start that breaks a limit
+//! is a [`Refusal`] and changes nothing; any other run ends with a [`Stop`]. [`assemble`] makes a sheet of a text,
+//! [`list`] a text of a sheet.
 
 mod answer;
 mod clearances;
@@ -11,7 +11,7 @@ mod machine;
 pub mod sys;
 mod text;
 
-pub use answer::{Refusal, Report, RowsReport, Space, Stop};
+pub use answer::{Refusal, Report, Space, Stop};
 pub use clearances::Clearances;
 pub use machine::{Atom, Entry, Kind, Line, Machine};
 pub use text::{assemble, assemble_into, assemble_raw, list, list_into, list_raw, SHEET_LIMIT, TEXT_LIMIT};
@@ -22,14 +22,8 @@ pub const PAGE_COUNT: usize = sys::PAGE_COUNT;
 /// Bytes of the longest page.
 pub const PAGE_LIMIT: usize = sys::PAGE_LIMIT;
 
-/// The words of a rule memory of one row: code, P, L1, L2, L3, new place label, result label.
-pub const RULE_MEMORY_WORDS: usize = sys::RULE_MEMORY_WORDS;
-
-/// Rows of the rule memory of [`rows`]: their numbers are 0 to 63.
-pub const ROW_COUNT: usize = sys::ROW_COUNT;
-
-/// The words of all these rows.
-pub const ROWS_WORDS: usize = sys::ROWS_WORDS;
+/// The words of a rule memory: code, P, L1, L2, L3, new place label, result label.
+pub const RULE_MEMORY_WORDS: usize = 7;
 
 /// The standard rules as a table. OutputTo and CallN have none of their own: they are under Output's and Call's.
 #[rustfmt::skip]
@@ -66,11 +60,11 @@ pub struct Lent<'a> {
     pub pages: &'a mut [i64],
 }
 
-/// What a tag engine is lent besides.
+/// What the tag engine is lent besides.
 #[derive(Debug)]
 pub struct Tags<'a> {
     pub table: &'a [u8],
-    /// Seven words for [`tagged`], 64 rows of seven for [`rows`]; a row of zeros is empty.
+    /// Seven words; zeros mean empty.
     pub rule_memory: &'a mut [i64],
     /// Two words for each of the [`handler_count`] kernel commands.
     pub handler: &'a mut [i64],
@@ -90,18 +84,6 @@ pub fn tagged(
     fuel: u64,
 ) -> Result<Report, Refusal> {
     tagged_raw(sheet, lent, tags, clearances.words(), fuel).named()
-}
-
-/// Runs a sheet on the tag engine that has 64 rows, under the rules of a table. Lines, cells, stop and steps are those
-/// of [`tagged`].
-pub fn rows(
-    sheet: &[u8],
-    lent: Lent,
-    tags: Tags,
-    clearances: &Clearances,
-    fuel: u64,
-) -> Result<RowsReport, Refusal> {
-    rows_raw(sheet, lent, tags, clearances.words(), fuel).named()
 }
 
 /// [`plain`] with the clearances' words as the C interface takes them, and the answer's as it gives them.
@@ -139,42 +121,6 @@ pub fn tagged_raw(sheet: &[u8], lent: Lent, tags: Tags, clearances: &[i64], fuel
     // SAFETY: as in `plain_raw`.
     unsafe {
         sys::luvrodan_tagged(
-            sheet.as_ptr(),
-            sheet.len(),
-            lent.values.as_mut_ptr(),
-            lent.values.len(),
-            lent.labels.as_mut_ptr(),
-            lent.labels.len(),
-            clearances.as_ptr(),
-            clearances.len(),
-            tags.table.as_ptr(),
-            tags.table.len(),
-            tags.rule_memory.as_mut_ptr(),
-            tags.rule_memory.len(),
-            lent.program.as_mut_ptr(),
-            lent.program.len(),
-            lent.stack.as_mut_ptr(),
-            lent.stack.len(),
-            tags.handler.as_mut_ptr(),
-            tags.handler.len(),
-            lent.numbers.as_mut_ptr(),
-            lent.numbers.len(),
-            lent.line_labels.as_mut_ptr(),
-            lent.line_labels.len(),
-            lent.kinds.as_mut_ptr(),
-            lent.kinds.len(),
-            lent.pages.as_mut_ptr(),
-            lent.pages.len(),
-            fuel,
-        )
-    }
-}
-
-/// [`rows`] with the clearances' words as the C interface takes them, and the answer's as it gives them.
-pub fn rows_raw(sheet: &[u8], lent: Lent, tags: Tags, clearances: &[i64], fuel: u64) -> sys::RawRowsResult {
-    // SAFETY: as in `plain_raw`.
-    unsafe {
-        sys::luvrodan_rows(
             sheet.as_ptr(),
             sheet.len(),
             lent.values.as_mut_ptr(),

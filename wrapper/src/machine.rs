@@ -1,9 +1,6 @@
 //! A machine that owns its memory.
 
-use crate::{
-    handler_count, plain, rows, sys, tagged, Clearances, Lent, Refusal, Report, RowsReport, Tags, ROW_COUNT,
-    RULE_MEMORY_WORDS,
-};
+use crate::{handler_count, plain, sys, tagged, Clearances, Lent, Refusal, Report, Tags, RULE_MEMORY_WORDS};
 use std::fmt;
 
 /// A number with a label, the set of owners 0 to 31 by bits.
@@ -51,9 +48,8 @@ pub enum Entry {
     FrameDue(Atom),
 }
 
-/// Cells, working space, output space, rule memories of one row and of 64, and clearances. A run starts at place 0 with
-/// an empty stack and no lines, from the cells and the rule memory that the run before left, under the clearances that
-/// were last set.
+/// Cells, working space, output space, rule memory and clearances. A run starts at place 0 with an empty stack and no
+/// lines, from the cells and the rule memory that the run before left, under the clearances that were last set.
 #[derive(Clone, Debug)]
 pub struct Machine {
     values: Vec<i64>,
@@ -66,18 +62,9 @@ pub struct Machine {
     kinds: Vec<i64>,
     pages: Vec<i64>,
     rule_memory: [i64; RULE_MEMORY_WORDS],
-    rows: [[i64; RULE_MEMORY_WORDS]; ROW_COUNT],
     clearances: Clearances,
     depth: usize,
     lines: usize,
-}
-
-/// All memory of a machine, to lend to an engine.
-struct All<'a> {
-    lent: Lent<'a>,
-    rule_memory: &'a mut [i64],
-    rows: &'a mut [i64],
-    handler: &'a mut [i64],
 }
 
 impl Machine {
@@ -95,7 +82,6 @@ impl Machine {
             kinds: vec![0; lines],
             pages: vec![0; lines],
             rule_memory: [0; RULE_MEMORY_WORDS],
-            rows: [[0; RULE_MEMORY_WORDS]; ROW_COUNT],
             clearances: Clearances::ALL,
             depth: 0,
             lines: 0,
@@ -106,7 +92,8 @@ impl Machine {
     pub fn run_plain(&mut self, sheet: &[u8], fuel: u64) -> Result<Report, Refusal> {
         self.make_room(sheet, 0);
         let clearances = self.clearances;
-        let report = plain(sheet, self.lent().lent, &clearances, fuel)?;
+        let (lent, _, _) = self.lent();
+        let report = plain(sheet, lent, &clearances, fuel)?;
         Ok(self.note(report))
     }
 
@@ -114,19 +101,9 @@ impl Machine {
     pub fn run_tagged(&mut self, sheet: &[u8], table: &[u8], fuel: u64) -> Result<Report, Refusal> {
         self.make_room(sheet, 2 * handler_count(table).unwrap_or(0));
         let clearances = self.clearances;
-        let All { lent, rule_memory, handler, .. } = self.lent();
+        let (lent, rule_memory, handler) = self.lent();
         let report = tagged(sheet, lent, Tags { table, rule_memory, handler }, &clearances, fuel)?;
         Ok(self.note(report))
-    }
-
-    /// Runs a sheet on the tag engine that has 64 rows, under the rules of a table.
-    pub fn run_rows(&mut self, sheet: &[u8], table: &[u8], fuel: u64) -> Result<RowsReport, Refusal> {
-        self.make_room(sheet, 2 * handler_count(table).unwrap_or(0));
-        let clearances = self.clearances;
-        let All { lent, rows: rule_memory, handler, .. } = self.lent();
-        let report = rows(sheet, lent, Tags { table, rule_memory, handler }, &clearances, fuel)?;
-        self.note(report.run);
-        Ok(report)
     }
 
     /// A sheet has at most a command for each byte.
@@ -140,7 +117,7 @@ impl Machine {
         }
     }
 
-    fn lent(&mut self) -> All<'_> {
+    fn lent(&mut self) -> (Lent<'_>, &mut [i64], &mut [i64]) {
         let lent = Lent {
             values: &mut self.values,
             labels: &mut self.labels,
@@ -151,12 +128,7 @@ impl Machine {
             kinds: &mut self.kinds,
             pages: &mut self.pages,
         };
-        All {
-            lent,
-            rule_memory: &mut self.rule_memory,
-            rows: self.rows.as_flattened_mut(),
-            handler: &mut self.handler,
-        }
+        (lent, &mut self.rule_memory, &mut self.handler)
     }
 
     fn note(&mut self, report: Report) -> Report {
@@ -215,22 +187,6 @@ impl Machine {
 
     pub fn set_rule_memory(&mut self, words: [i64; RULE_MEMORY_WORDS]) {
         self.rule_memory = words;
-    }
-
-    /// The rule memory of 64 rows.
-    pub fn rows(&self) -> &[[i64; RULE_MEMORY_WORDS]; ROW_COUNT] {
-        &self.rows
-    }
-
-    /// Puts words into one of its rows; zeros make it empty. After a stop 6 a row has the −1 pair and wants zeros before
-    /// the next run: it is the row before the one whose turn it is, and row 63 where that is row 0.
-    ///
-    /// # Panics
-    ///
-    /// If there is no such row: their numbers are 0 to 63.
-    pub fn set_row(&mut self, row: usize, words: [i64; RULE_MEMORY_WORDS]) {
-        assert!(row < ROW_COUNT, "there is no row {row}: they are 0 to {}", ROW_COUNT - 1);
-        self.rows[row] = words;
     }
 
     pub fn clearances(&self) -> Clearances {

@@ -6,11 +6,6 @@ pub const PAGE_COUNT: usize = 16;
 /// The clearance word of a page that is cleared for all owners.
 pub const ALL_OWNERS: i64 = 4_294_967_295;
 
-/// The words of a row of the rule memory, the rows of `luvrodan_rows`, and their words.
-pub const RULE_MEMORY_WORDS: usize = 7;
-pub const ROW_COUNT: usize = 64;
-pub const ROWS_WORDS: usize = 448;
-
 /// Bytes of the longest page.
 pub const PAGE_LIMIT: usize = 33_792;
 
@@ -40,13 +35,6 @@ pub struct RawResult {
     pub lines: u64,
     pub faults: u64,
     pub kernel_steps: u64,
-}
-
-#[repr(C)]
-#[derive(Clone, Copy, Debug, PartialEq, Eq)]
-pub struct RawRowsResult {
-    pub run: RawResult,
-    pub turn: u64,
 }
 
 #[repr(C)]
@@ -118,36 +106,6 @@ extern "C" {
         page_count: usize,
         fuel: u64,
     ) -> RawResult;
-
-    pub fn luvrodan_rows(
-        sheet: *const u8,
-        sheet_length: usize,
-        values: *mut i64,
-        value_count: usize,
-        labels: *mut i64,
-        label_count: usize,
-        clearances: *const i64,
-        clearance_count: usize,
-        table: *const u8,
-        table_length: usize,
-        rule_memory: *mut i64,
-        rule_memory_words: usize,
-        program: *mut i64,
-        program_words: usize,
-        stack: *mut i64,
-        stack_words: usize,
-        handler: *mut i64,
-        handler_words: usize,
-        numbers: *mut i64,
-        number_count: usize,
-        line_labels: *mut i64,
-        line_label_count: usize,
-        kinds: *mut i64,
-        kind_count: usize,
-        pages: *mut i64,
-        page_count: usize,
-        fuel: u64,
-    ) -> RawRowsResult;
 
     pub fn luvrodan_handler_count(table: *const u8, table_length: usize) -> u64;
 

@@ -2,9 +2,9 @@
 
 use luvrodan::sys::ALL_OWNERS;
 use luvrodan::{
-    assemble, assemble_into, handler_count, list, list_into, page, page_into, plain_raw, rows_raw,
-    tagged_raw, Atom, Clearances, Entry, Kind, Lent, Line, Machine, Refusal, Report, ShortBuffer, Space,
-    Stop, Tags, PAGE_LIMIT, ROWS_WORDS, SHEET_LIMIT, STANDARD_TABLE, TEXT_LIMIT,
+    assemble, assemble_into, handler_count, list, list_into, page, page_into, plain_raw, tagged_raw, Atom,
+    Clearances, Entry, Kind, Lent, Line, Machine, Refusal, ShortBuffer, Space, Stop, Tags, PAGE_LIMIT,
+    SHEET_LIMIT, STANDARD_TABLE, TEXT_LIMIT,
 };
 
 const CELLS: [Atom; 2] = [Atom { number: 7, label: 0 }, Atom { number: 5, label: 1 }];
@@ -18,24 +18,16 @@ fn sheet(parts: &[&[u8]]) -> Vec<u8> {
     parts.concat()
 }
 
-/// The plain engine, the tag engine, and the one of 64 rows.
-const ENGINES: [&str; 3] = ["plain", "tagged", "rows"];
-
-/// A run on one of them, under the standard rules.
-fn run(machine: &mut Machine, engine: &str, sheet: &[u8], fuel: u64) -> Result<Report, Refusal> {
-    match engine {
-        "plain" => machine.run_plain(sheet, fuel),
-        "tagged" => machine.run_tagged(sheet, &STANDARD_TABLE, fuel),
-        _ => machine.run_rows(sheet, &STANDARD_TABLE, fuel).map(|report| report.run),
-    }
-}
-
 #[test]
 fn lines_and_cells() {
     let sheet = sheet(&[&push(1), &[6], &push(0), &[6, 1, 4], &push(0), &[6, 4]]);
     let mut machine = Machine::new(&CELLS, 10);
-    for engine in ENGINES {
-        let report = run(&mut machine, engine, &sheet, 100).unwrap();
+    for engine in ["plain", "tagged"] {
+        let report = match engine {
+            "plain" => machine.run_plain(&sheet, 100),
+            _ => machine.run_tagged(&sheet, &STANDARD_TABLE, 100),
+        }
+        .unwrap();
         assert_eq!((report.stop, report.steps, report.lines, report.depth), (Stop::End, 9, 3, 0));
         let lines: Vec<_> = machine.lines().collect();
         let number = |number, label| Line { page: 0, kind: Kind::Number, number, label };
@@ -78,8 +70,12 @@ fn pages_of_a_run() {
     // A public number and a secret one, each on page 15 and on page 0.
     let prints = sheet(&[&push(3), &[12, 15], &push(1), &[6, 12, 15], &push(4), &[4], &push(1), &[6, 12, 0]]);
     let mut machine = Machine::new(&CELLS, 5);
-    for engine in ENGINES {
-        let report = run(&mut machine, engine, &prints, 100).unwrap();
+    for engine in ["plain", "tagged"] {
+        let report = match engine {
+            "plain" => machine.run_plain(&prints, 100),
+            _ => machine.run_tagged(&prints, &STANDARD_TABLE, 100),
+        }
+        .unwrap();
         assert_eq!((report.stop, report.lines), (Stop::End, 5));
         let of_page =
             |set, page| machine.view_of_page(set, page).map(|line| line.to_string()).collect::<Vec<_>>();
@@ -121,15 +117,15 @@ fn stack_and_stops() {
     assert_eq!(stop(&hidden, 999), Stop::NotAllowed);
 }
 
-/// The place, the stop and the stack after so many steps, alike on all engines.
+/// The place, the stop and the stack after so many steps, alike on both engines.
 fn stopped(sheet: &[u8], fuel: u64) -> (i64, Stop, Vec<Entry>) {
-    let [plain, tagged, rows] = ENGINES.map(|engine| {
-        let mut machine = Machine::new(&CELLS, 9);
-        let report = run(&mut machine, engine, sheet, fuel).unwrap();
-        (report.place, report.stop, machine.stack().collect::<Vec<_>>())
-    });
-    assert_eq!((&tagged, &rows), (&plain, &plain));
-    plain
+    let mut machine = Machine::new(&CELLS, 9);
+    let plain = machine.run_plain(sheet, fuel).unwrap();
+    let stack: Vec<_> = machine.stack().collect();
+    let tagged = machine.run_tagged(sheet, &STANDARD_TABLE, fuel).unwrap();
+    assert_eq!((plain.place, plain.stop), (tagged.place, tagged.stop));
+    assert_eq!(machine.stack().collect::<Vec<_>>(), stack);
+    (plain.place, plain.stop, stack)
 }
 
 #[test]
@@ -166,8 +162,12 @@ fn hidden_returns() {
         &[&push(1)[..], &[6], &push(2), &[13, 1, 1, 4]].concat(),
     ]);
     let mut machine = Machine::new(&CELLS, 2);
-    for engine in ENGINES {
-        let report = run(&mut machine, engine, &sheet, 100).unwrap();
+    for engine in ["plain", "tagged"] {
+        let report = match engine {
+            "plain" => machine.run_plain(&sheet, 100),
+            _ => machine.run_tagged(&sheet, &STANDARD_TABLE, 100),
+        }
+        .unwrap();
         assert_eq!((report.stop, report.steps, report.place_label), (Stop::End, 10, 0));
         assert_eq!(view(&machine, 1), ["0 9 00000001", "0 end 00000000"]);
         assert!(machine.view_is_whole(0));
@@ -230,8 +230,12 @@ fn overflow() {
     let sheet = sheet(&[&push(3), &[4], &push(i64::MAX), &push(1), &[1, 4]]);
     let mut machine = Machine::new(&CELLS, 9);
     let stack = [i64::MAX, 1].map(|number| Entry::Value(Atom { number, label: 0 }));
-    for engine in ENGINES {
-        let report = run(&mut machine, engine, &sheet, 100).unwrap();
+    for engine in ["plain", "tagged"] {
+        let report = match engine {
+            "plain" => machine.run_plain(&sheet, 100),
+            _ => machine.run_tagged(&sheet, &STANDARD_TABLE, 100),
+        }
+        .unwrap();
         assert_eq!((report.stop, report.steps, report.place), (Stop::Overflow, 4, 4));
         assert_eq!((report.stop.number(), report.stop.to_string()), (9, "result outside 64 bits".into()));
         assert_eq!(machine.stack().collect::<Vec<_>>(), stack);
@@ -276,8 +280,12 @@ fn lines_not_cleared() {
         (Clearances::ALL.with(15, !1), Stop::NotCleared),
     ] {
         machine.set_clearances(clearances);
-        for engine in ENGINES {
-            let report = run(&mut machine, engine, &sheet, 100).unwrap();
+        for engine in ["plain", "tagged"] {
+            let report = match engine {
+                "plain" => machine.run_plain(&sheet, 100),
+                _ => machine.run_tagged(&sheet, &STANDARD_TABLE, 100),
+            }
+            .unwrap();
             assert_eq!(report.stop, stop);
             if stop == Stop::NotCleared {
                 assert_eq!((report.stop.number(), report.steps, report.place, report.lines), (10, 4, 4, 1));
@@ -299,12 +307,11 @@ fn end_not_cleared() {
         let mut machine = Machine::new(&CELLS, room);
         machine.set_clearances(Clearances::ALL.with(0, 2));
         for fuel in [5, 6] {
-            for engine in ENGINES {
-                let report = run(&mut machine, engine, &sheet, fuel).unwrap();
-                assert_eq!((report.stop, report.steps), (Stop::NotCleared, 5));
-                assert_eq!((report.place, report.place_label, report.lines), (5, 1, 1));
-                assert!(!machine.view_is_whole(1));
-            }
+            let report = machine.run_tagged(&sheet, &STANDARD_TABLE, fuel).unwrap();
+            assert_eq!((report.stop, report.steps), (Stop::NotCleared, 5));
+            assert_eq!((report.place, report.place_label, report.lines), (5, 1, 1));
+            assert_eq!(machine.run_plain(&sheet, fuel).unwrap().stop, Stop::NotCleared);
+            assert!(!machine.view_is_whole(1));
         }
     }
 }
@@ -328,7 +335,7 @@ fn refusals() {
     // Without RetV's rule.
     assert_eq!(machine.run_tagged(&[], &STANDARD_TABLE[..55], 0), Err(Refusal::RuleTable { offset: 55 }));
     machine.set_rule_memory([1, 0, 1, 1, -1, 0, 0]);
-    assert_eq!(machine.run_tagged(&[], &STANDARD_TABLE, 0), Err(Refusal::RuleMemory { row: 0 }));
+    assert_eq!(machine.run_tagged(&[], &STANDARD_TABLE, 0), Err(Refusal::RuleMemory));
     machine.set_rule_memory([1, 0, 1, 1, -1, 0, 1]);
     assert!(machine.run_tagged(&[], &STANDARD_TABLE, 0).is_ok());
     for (row, accepted) in [
@@ -356,29 +363,38 @@ fn refusals() {
     assert_eq!((refusal.number(), refusal.place(), refusal.to_string()), (14, 7, "refused 14 7".into()));
 }
 
-/// Runs on lent memory with these lengths of program, stack and handler, without output space, on each engine.
-fn lend(lengths: [usize; 3], label: i64, clearances: &[i64]) -> [Result<Stop, Refusal>; 3] {
-    ENGINES.map(|engine| {
-        let [mut program, mut stack, mut handler] = lengths.map(|length| vec![9; length]);
-        let mut rule_memory = vec![0; if engine == "rows" { ROWS_WORDS } else { 7 }];
-        let lent = Lent {
-            values: &mut [1],
-            labels: &mut [label],
+/// Runs on lent memory with these lengths of program, stack and handler, without output space.
+fn lend(lengths: [usize; 3], label: i64, clearances: &[i64]) -> [Result<Stop, Refusal>; 2] {
+    let [mut program, mut stack, mut handler] = lengths.map(|length| vec![9; length]);
+    let (values, labels, rule_memory) = (&mut [1], &mut [label], &mut [0; 7]);
+    let by_plain = plain_raw(
+        &[3],
+        Lent {
+            values,
+            labels,
             program: &mut program,
             stack: &mut stack,
             numbers: &mut [],
             line_labels: &mut [],
             kinds: &mut [],
             pages: &mut [],
-        };
-        let tags = Tags { table: &STANDARD_TABLE, rule_memory: &mut rule_memory, handler: &mut handler };
-        let raw = match engine {
-            "plain" => plain_raw(&[3], lent, clearances, 9),
-            "tagged" => tagged_raw(&[3], lent, tags, clearances, 9),
-            _ => rows_raw(&[3], lent, tags, clearances, 9).run,
-        };
-        raw.named().map(|report| report.stop)
-    })
+        },
+        clearances,
+        9,
+    );
+    let lent = Lent {
+        values,
+        labels,
+        program: &mut program,
+        stack: &mut stack,
+        numbers: &mut [],
+        line_labels: &mut [],
+        kinds: &mut [],
+        pages: &mut [],
+    };
+    let tags = Tags { table: &STANDARD_TABLE, rule_memory, handler: &mut handler };
+    let by_tags = tagged_raw(&[3], lent, tags, clearances, 9);
+    [by_plain, by_tags].map(|raw| raw.named().map(|report| report.stop))
 }
 
 #[test]
@@ -386,11 +402,11 @@ fn lent_memory() {
     let handler = 2 * handler_count(&STANDARD_TABLE).unwrap();
     assert_eq!(handler_count(&[]), None);
     let lend = |lengths, label| lend(lengths, label, Clearances::ALL.words());
-    assert_eq!(lend([2, 768, handler], 0), [Ok(Stop::ValueMissing); 3]);
-    assert_eq!(lend([1, 768, handler], 0), [Err(Refusal::ShortSpace(Space::Program)); 3]);
-    assert_eq!(lend([2, 767, handler], 0), [Err(Refusal::ShortSpace(Space::Stack)); 3]);
-    assert_eq!(lend([2, 768, handler - 1], 0)[1..], [Err(Refusal::ShortSpace(Space::Handler)); 2]);
-    assert_eq!(lend([2, 768, handler], -1), [Err(Refusal::LabelOutside { cell: 0 }); 3]);
+    assert_eq!(lend([2, 768, handler], 0), [Ok(Stop::ValueMissing); 2]);
+    assert_eq!(lend([1, 768, handler], 0), [Err(Refusal::ShortSpace(Space::Program)); 2]);
+    assert_eq!(lend([2, 767, handler], 0), [Err(Refusal::ShortSpace(Space::Stack)); 2]);
+    assert_eq!(lend([2, 768, handler - 1], 0)[1], Err(Refusal::ShortSpace(Space::Handler)));
+    assert_eq!(lend([2, 768, handler], -1), [Err(Refusal::LabelOutside { cell: 0 }); 2]);
 }
 
 #[test]
@@ -403,20 +419,20 @@ fn clearance_words() {
         words
     };
     for page in [0, 1, 15] {
-        let refused = [Err(Refusal::Clearance { page: page as u64 }); 3];
+        let refused = [Err(Refusal::Clearance { page: page as u64 }); 2];
         for word in [-1, ALL_OWNERS + 1, i64::MIN, i64::MAX] {
             assert_eq!(lend(spaces, 0, &with(page, word)), refused);
         }
-        assert_eq!(lend(spaces, 0, &with(page, 0)), [Ok(Stop::ValueMissing); 3]);
+        assert_eq!(lend(spaces, 0, &with(page, 0)), [Ok(Stop::ValueMissing); 2]);
     }
     // Another number of words goes before a word of them.
-    let refused = [Err(Refusal::Clearance { page: 16 }); 3];
+    let refused = [Err(Refusal::Clearance { page: 16 }); 2];
     for words in [&[][..], &all[1..], &with(0, -1)[..15], &[ALL_OWNERS; 17], &[-1; 17]] {
         assert_eq!(lend(spaces, 0, words), refused);
     }
     // After the cells, before the spaces.
-    assert_eq!(lend(spaces, -1, &[]), [Err(Refusal::LabelOutside { cell: 0 }); 3]);
-    assert_eq!(lend([1, 0, 0], 0, &with(3, -1)), [Err(Refusal::Clearance { page: 3 }); 3]);
+    assert_eq!(lend(spaces, -1, &[]), [Err(Refusal::LabelOutside { cell: 0 }); 2]);
+    assert_eq!(lend([1, 0, 0], 0, &with(3, -1)), [Err(Refusal::Clearance { page: 3 }); 2]);
     let refusal = Refusal::Clearance { page: 3 };
     assert_eq!((refusal.number(), refusal.place(), refusal.to_string()), (13, 3, "refused 13 3".into()));
 }

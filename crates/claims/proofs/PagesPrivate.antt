@@ -74,7 +74,7 @@ shown-run h bytes e =
           ran = ran;
           lines = lines_in ran m;
           stopped = ap (λ (x : Left). x.ended.answer) d;
-          by = on_tagged (zeros 7) (lent_for (cell_words_of h)) handler_space h.allowance ran u m handler d;
+          by = on_tagged (zeros 7) refl (lent_for (cell_words_of h)) handler_space h.allowance ran u m handler d;
           is = lines-view h.reader (lines_in ran m);
         }
 

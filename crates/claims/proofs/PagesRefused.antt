@@ -3,7 +3,7 @@
 -- Assumes nothing.
 use mathlib.Core.Path.{◌≡◌, refl, sym, ap, ap₂, subst, ◌∙◌}
 use mathlib.Core.Logic.{inl}
-use mathlib.Core.List.{List, [], ◌∷◌}
+use mathlib.Core.List.{List, []}
 use Prim.Native.Nat.{ℕ}
 use lib.ListN.{length, take, drop}
 use lib.Seq.{take-length}
@@ -19,7 +19,7 @@ use Rattle.engine.specs.Memory.{all_cleared}
 use Rattle.engine.specs.Start.{labels_limit, start_decoded, start_of}
 use Rattle.policy.specs.Read.{read_table}
 use Rattle.policy.specs.Standard.{standard_bytes}
-use Rattle.tagged.specs.Tagged.{start_tagged, tagged_of, tag_engine}
+use Rattle.tagged.specs.Tagged.{start_tagged, tagged_of, tagged}
 use Rattle.report.specs.Job.{Heard, Ending, bad, sheet, read_job, sheet_from, sheet_of}
 use Rattle.report.specs.Lines.{job_text, refused_text}
 use Rattle.report.specs.Page.{zeros, lent_for, handler_space, end_for, page_of}
@@ -36,7 +36,7 @@ start_fate (accepted cs) = Pages.ran
 
 -- what the start of a job comes to, with the page program's spaces
 abbrev started : Heard → List ℕ → Decoded
-started h bytes = start_tagged 1 1 bytes (read_table standard_bytes) (zeros 7 ∷ []) all_cleared (lent_for (cell_words_of h)) handler_space h.allowance
+started h bytes = start_tagged bytes (read_table standard_bytes) (zeros 7) all_cleared (lent_for (cell_words_of h)) handler_space h.allowance
 
 -- the fate of a sheet with an allowance, and no cells
 abbrev without : ℕ → Heard
@@ -61,12 +61,12 @@ module _ (h : Heard) (few : Few h) (labels : labels_limit 5 0 h.labels ≡ Kept)
           rw (eq-eqb (length h.values) (length h.labels) (sym few.labels), le-leb (length h.values) 1024 few.values, labels)
 
   start-answered : answered (end_for (cell_words_of h) h.allowance bytes).ended.answer ≡ start_fate (started h bytes)
-  unfolding tag_engine
+  unfolding tagged
   start-answered = go (started h bytes)
     where
       go : (d : Decoded)
           → answered
-          (tagged_of d (read_table standard_bytes) (zeros 7 ∷ []) all_cleared (lent_for (cell_words_of h)) handler_space h.allowance).ended.answer
+          (tagged_of d (read_table standard_bytes) (zeros 7) all_cleared (lent_for (cell_words_of h)) handler_space h.allowance).ended.answer
           ≡ start_fate d
       go (refused r) = refl
       go (accepted cs) = refl

@@ -35,9 +35,9 @@ use Rattle.engine.proofs.Pairs.{lines-read}
 use Rattle.policy.specs.Standard.{standard_bytes}
 use Rattle.plain.specs.Plain.{plain}
 use Rattle.tagging.specs.Consult.{Tag}
-use Rattle.tagged.specs.Tagged.{left, tag_engine, tagged}
-use Rattle.claims.specs.Refusals.{Nothing, Checks, none_own, tagged_own, Given}
-use Rattle.claims.specs.Privacy.{cells_in, lines_in, Ran, on_plain, on_tagged, on_rows, Views, Claim, Complete, Meant}
+use Rattle.tagged.specs.Tagged.{left, tagged}
+use Rattle.claims.specs.Refusals.{Nothing, Checks, none_own, tagged_own}
+use Rattle.claims.specs.Privacy.{cells_in, lines_in, Ran, on_plain, on_tagged, Views, Claim, Complete, Meant}
 use Rattle.claims.specs.Privacy.{EachPage, Paged, Cleared, ClosedPage}
 use Rattle.claims.proofs.Refusals.{plain-demand, tagged-demand}
 use Rattle.claims.proofs.Both.{tagged-plain}
@@ -80,10 +80,8 @@ plain_runs sheet c m fuel p after e = go (answer sheet c m fuel Start.none_own) 
 ran-runs : (sheet : List ℕ) (c : Clearances) {cells : List Atom} {ran : Engine.Ran} {lines : List Line} → Ran sheet c cells ran lines
     → Runs sheet c cells ran lines
 ran-runs sheet c (on_plain m fuel p after e) = plain_runs sheet c m fuel p after e
-ran-runs sheet c (on_tagged row m handler fuel p u after handler' e) =
-    plain_runs sheet c m fuel p after (tagged-plain 1 1 (row ∷ []) (λ e. refl) sheet c m handler fuel p u after handler' e)
-ran-runs sheet c (on_rows count rows whole m handler fuel p u after handler' e) =
-    plain_runs sheet c m fuel p after (tagged-plain 64 count rows whole sheet c m handler fuel p u after handler' e)
+ran-runs sheet c (on_tagged row size m handler fuel p u after handler' e) =
+    plain_runs sheet c m fuel p after (tagged-plain sheet c m fuel row handler size p u after handler' e)
 
 -- two runs of a sheet are of the same commands
 one-program : {sheet : List ℕ} {c₁ c₂ : Clearances} {cells₁ cells₂ : List Atom} {ran₁ ran₂ : Engine.Ran} {lines₁ lines₂ : List Line}
@@ -158,17 +156,9 @@ module _ (sheet : List ℕ) (c : Clearances) (m : Memory) (fuel : ℕ) where
       let (ran, u, after, e, stop, steps) = (plain-demand sheet c m fuel).otherwise kept in
       (ran, lines_in ran after, on_plain m fuel ran after e)
 
-  pub rows-ran : (count : ℕ) (rows : List (List ℤ)) (handler : List ℤ) → Given 64 count rows
-      → Nothing (Checks sheet c m fuel (tagged_own 64 count standard_bytes rows handler))
+  pub tagged-ran : (row handler : List ℤ) → length row ≡ 7 → Nothing (Checks sheet c m fuel (tagged_own standard_bytes row handler))
       → (ran : Engine.Ran) × (lines : List Line) × Ran sheet c (cells_in m) ran lines
-  rows-ran count rows handler whole kept =
-      let (ran, u, after, e, stop, steps) = (tagged-demand 64 count sheet c m fuel standard_bytes rows handler whole).otherwise kept in
-      let space = (tag_engine 64 count sheet standard_bytes rows c m handler fuel).handler in
-      (ran, lines_in ran after, on_rows count rows whole m handler fuel ran u after space (ap (λ (x : Ended Tag). left x space) e))
-
-  pub tagged-ran : (row handler : List ℤ) → Nothing (Checks sheet c m fuel (tagged_own 1 1 standard_bytes (row ∷ []) handler))
-      → (ran : Engine.Ran) × (lines : List Line) × Ran sheet c (cells_in m) ran lines
-  tagged-ran row handler kept =
-      let (ran, u, after, e, stop, steps) = (tagged-demand 1 1 sheet c m fuel standard_bytes (row ∷ []) handler (λ e. refl)).otherwise kept in
+  tagged-ran row handler size kept =
+      let (ran, u, after, e, stop, steps) = (tagged-demand sheet c m fuel standard_bytes row handler).otherwise kept in
       let space = (tagged sheet standard_bytes row c m handler fuel).handler in
-      (ran, lines_in ran after, on_tagged row m handler fuel ran u after space (ap (λ (x : Ended Tag). left x space) e))
+      (ran, lines_in ran after, on_tagged row size m handler fuel ran u after space (ap (λ (x : Ended Tag). left x space) e))

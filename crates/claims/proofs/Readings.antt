@@ -27,8 +27,8 @@ use Rattle.policy.specs.Evaluate.{evaluate}
 use Rattle.handler.specs.Kernel.{or_word, effect, handle}
 use Rattle.handler.specs.Kernel as Kernel
 use Rattle.handler.specs.Translate.{compile_rule, translate}
-use Rattle.tagging.specs.Consult.{matches, first_match, consult}
-use Rattle.tagged.specs.Tagged.{tag_engine}
+use Rattle.tagging.specs.Consult.{matches, consult}
+use Rattle.tagged.specs.Tagged.{tagged}
 use Rattle.report.specs.Job.{four_at, item_at, read_from, read_job}
 use Rattle.report.specs.Lines.{page_text, line_text, lines_text}
 use Rattle.report.specs.Page.{run_text, page_of}
@@ -39,5 +39,5 @@ unfolding given page_of run_text read_job read_from item_at four_at page_text li
     bits_at unsigned_at signed_at bytes_of laid digit_char numeral digit_count natural decimal hexadecimal union subset join flows stored
     low_label opcode_of decode_from decode encode barrier request execute step asked run along paired labels_limit token_of token_at read_label
     read_condition read_rule_with read_rules read_table accepted_row evaluate or_word effect handle Kernel.step Kernel.run compile_rule translate
-    matches first_match consult start_of standard plain tag_engine
+    matches consult start_of standard plain tagged
 readings-hold = refl

@@ -1,22 +1,19 @@
 -- Demand 1 (specs/Refusals.antt): each limit decides its check, and the first that is broken decides the start.
 -- Assumes nothing.
-use mathlib.Core.Path.{◌≡◌, refl, sym, ap, subst, ◌∙◌}
-use mathlib.Core.Logic.{◌≢◌}
+use mathlib.Core.Path.{◌≡◌, refl, sym, ap, ◌∙◌}
 use mathlib.Core.Bool.{Bool, true, false}
 use mathlib.Core.List.{List, [], ◌∷◌}
-use Prim.Native.Nat.{ℕ, suc, ◌+◌, ◌*◌, ◌^◌, ◌<◌}
-use native.Mathlib.Nat.{zero-add, add-zero}
+use Prim.Native.Nat.{ℕ, suc, ◌*◌, ◌^◌, ◌<◌}
 use native.Mathlib.Omega.{arith}
 use lib.IntN.{ℤ, pos, negsuc}
 use lib.ListN.{length}
-use lib.Dec.{leb, ltb, eqb}
-use borrow.Author.Tests.{ltb-true, ltb-false, leb-true, leb-false, le-leb, lt-leb, eqb-true, eqb-false}
-use Rattle.word.specs.Choose.{choose}
+use lib.Dec.{leb, ltb}
+use borrow.Author.Tests.{ltb-true, ltb-false, leb-true, leb-false, eqb-true, eqb-false}
 use Rattle.word.proofs.Bool.{never}
 use Rattle.label.specs.Word.{stored, stored_if}
 use Rattle.program.specs.declared.Command.{Command}
 use Rattle.program.specs.declared.Refusal.{Refusal}
-use Rattle.program.specs.Decode.{Decoded, refusal, decode}
+use Rattle.program.specs.Decode.{Decoded, decode}
 use Rattle.program.specs.Decode as Decode
 use Rattle.machine.specs.Rule.{Ruler, standard, fixed}
 use Rattle.machine.specs.Run.{Result}
@@ -36,13 +33,12 @@ use Rattle.policy.specs.Expression.{Table}
 use Rattle.policy.specs.Read.{ReadTable, table, read_table}
 use Rattle.policy.specs.Read as Read
 use Rattle.policy.specs.Row.{accepted_row}
-use Rattle.tables.specs.Rows.{refused_row}
 use Rattle.handler.specs.Translate.{translate, handler_of}
 use Rattle.tagging.specs.Consult.{tag_ruler}
 use Rattle.tagged.specs.Start.{own_of}
-use Rattle.tagged.specs.Tagged.{Left, left, tag_of, start_tagged, tagged_of, tag_engine}
-use Rattle.claims.specs.Refusals.{Gives, broken, Nothing, ◌before◌, first, next, Labels, OfSheet, OfTable, Own, none_own, Rows, tagged_own}
-use Rattle.claims.specs.Refusals.{Checks, Demand, StoppedBy, TaggedDemand, Given, PlainClaim, TaggedClaim}
+use Rattle.tagged.specs.Tagged.{Left, left, tag_of, start_tagged, tagged_of, tagged}
+use Rattle.claims.specs.Refusals.{Gives, broken, Nothing, ◌before◌, first, next, Labels, OfSheet, OfTable, Own, none_own, tagged_own}
+use Rattle.claims.specs.Refusals.{Checks, Demand, StoppedBy, TaggedDemand, PlainClaim, TaggedClaim}
 
 -- ════════════════════════════════════════════════════════════════════════════════════════════
 -- Limits and checks
@@ -82,10 +78,6 @@ gives_one r (broken p) = refl
 
 gives-holds : {P : Type 0} {q : Refusal} (r : Refusal) → Gives P q r → P
 gives-holds r (broken p) = p
-
--- where the one condition does not hold it gives nothing
-gives_none : {P : Type 0} {q : Refusal} → Decides (Gives P q) Kept → Nothing (Gives P q)
-gives_none (passes none) = none
 
 test-decides : (b : Bool) {P : Type 0} {q : Refusal} → (b ≡ true → P → ⊥) → (b ≡ false → P) → Decides (Gives P q) (kept_if b q)
 test-decides true ok bad = passes (λ r h. ok refl (gives-holds r h))
@@ -200,90 +192,47 @@ plain-demand sheet c m fuel =
     engine-demand (fixed standard) tt c m fuel (start_of sheet m.lent.cells.labels c (given m fuel) Engine.none_own)
     (start-decides sheet c m fuel none_own Engine.none_own none-owns (decode sheet) refl)
 
-leb-suc : (n k : ℕ) → leb (suc n) (suc k) ≡ leb n k
-leb-suc n k = go (leb n k) refl
-  where
-    go : (b : Bool) → leb n k ≡ b → leb (suc n) (suc k) ≡ b
-    go true e = le-leb (suc n) (suc k) (let h = leb-true n k e in omega arith)
-    go false e = lt-leb (suc n) (suc k) (let h = leb-false n k e in omega arith)
-
-add-suc : (i k : ℕ) → i + suc k ≡ suc i + k
-add-suc i k = omega arith
-
--- check 7: the number of rows, then row after row
-rows-decide : (bytes : List ℕ) (t : Table) → read_table bytes ≡ table t → (i : ℕ) (rows : List (List ℤ))
-    → Decides (Rows bytes i rows) (kept_if (leb (length rows) (refused_row t rows)) (refusal 7 (i + refused_row t rows)))
-rows-decide bytes t e i [] = passes (λ r h. h)
-rows-decide bytes t e i (ws ∷ rows) = go (accepted_row t ws) refl (rows-decide bytes t e (suc i) rows)
-  where
-    row : (b : Bool) → accepted_row t ws ≡ b → {q : Refusal} → Decides (Gives (OfTable bytes (λ u. accepted_row u ws ≡ false)) q) (kept_if b q)
-    row b is = table-decides bytes t e (λ u. accepted_row u ws ≡ false) b (λ f g. let z = sym (is ∙ f) ∙ g in never (cc)) (λ f. is ∙ f)
-
-    go : (b : Bool) → accepted_row t ws ≡ b
-        → Decides (Rows bytes (suc i) rows) (kept_if (leb (length rows) (refused_row t rows)) (refusal 7 (suc i + refused_row t rows)))
-        → Decides (Rows bytes i (ws ∷ rows))
-        (kept_if (leb (suc (length rows)) (choose b (suc (refused_row t rows)) 0)) (refusal 7 (i + choose b (suc (refused_row t rows)) 0)))
-    go true is on =
-        rw (leb-suc (length rows) (refused_row t rows), add-suc i (refused_row t rows))
-        (next-decides (λ r h. gives_none (row true is) r h) on)
-    go false is on = rw (lt-leb (suc (length rows)) 0 (omega arith), add-zero i) (first-decides (broken (t, e, is)) gives_one)
-
-tagged-owns : (wanted count : ℕ) (bytes : List ℕ) (rows : List (List ℤ)) (handler : List ℤ) → Given wanted count rows
-    → (q : ReadTable) → read_table bytes ≡ q
-    → Owns (tagged_own wanted count bytes rows handler) (own_of wanted count q rows (length handler))
-tagged-owns wanted count bytes rows handler whole (Read.refused r) e =
+tagged-owns : (bytes : List ℕ) (row handler : List ℤ) (q : ReadTable) → read_table bytes ≡ q
+    → Owns (tagged_own bytes row handler) (own_of q row (length handler))
+tagged-owns bytes row handler (Read.refused r) e =
     record { rules = refuses e (λ q f. let k = sym f ∙ e in cc); row = λ k. never (cc); handler = λ k. never (cc) }
-tagged-owns wanted count bytes rows handler whole (table t) e =
+tagged-owns bytes row handler (table t) e =
     record {
       rules = passes (λ q f. let k = sym f ∙ e in never (cc));
-      row = λ k. counted (eqb count wanted) refl;
+      row = λ k. table-decides bytes t e (λ u. accepted_row u row ≡ false) (accepted_row t row) (λ f g. let z = sym f ∙ g in never (cc))
+          (λ f. f);
       handler = λ k. table-decides bytes t e (λ u. length handler < 2 * length (translate u)) _ (enough _ _) (leb-false _ _);
     }
-  where
-    miscounted : (r : Refusal) → Gives (count ≢ wanted) (refusal 7 wanted) r → count ≡ wanted → ⊥
-    miscounted r h = gives-holds r h
 
-    counted : (b : Bool) → eqb count wanted ≡ b
-        → Decides (Gives (count ≢ wanted) (refusal 7 wanted) before Rows bytes 0 rows)
-        (choose b (kept_if (leb wanted (refused_row t rows)) (refusal 7 (refused_row t rows))) (Broken (refusal 7 wanted)))
-    counted true d =
-        let same = eqb-true count wanted d in
-        next-decides (λ r h. miscounted r h same)
-        (subst (λ (n : ℕ). Decides (Rows bytes 0 rows) (kept_if (leb n (refused_row t rows)) (refusal 7 (refused_row t rows)))) (whole same)
-        (subst (λ (n : ℕ). Decides (Rows bytes 0 rows) (kept_if (leb (length rows) (refused_row t rows)) (refusal 7 n))) (zero-add (refused_row t rows))
-        (rows-decide bytes t e 0 rows)))
-    counted false d = first-decides (broken (eqb-false count wanted d)) gives_one
+module _ (sheet : List ℕ) (c : Clearances) (m : Memory) (fuel : ℕ) (bytes : List ℕ) (row handler : List ℤ) where
+  abbrev checks : Refusal → Type 0
+  checks = Checks sheet c m fuel (tagged_own bytes row handler)
 
-module _ (wanted count : ℕ) (sheet : List ℕ) (c : Clearances) (m : Memory) (fuel : ℕ) (bytes : List ℕ) (rows : List (List ℤ)) (handler : List ℤ)
-  where
-    abbrev checks : Refusal → Type 0
-    checks = Checks sheet c m fuel (tagged_own wanted count bytes rows handler)
+  abbrev leaves : Decoded → Left
+  leaves d = tagged_of d (read_table bytes) row c m handler fuel
 
-    abbrev leaves : Decoded → Left
-    leaves d = tagged_of d (read_table bytes) rows c m handler fuel
-
-    tagged-left : (d : Decoded) → Decides checks (limit_of d)
-        → Demand checks (λ r. (leaves d).ended ≡ ended (Answer.Refused r) (tag_of rows) m) (StoppedBy fuel (leaves d).ended)
-        → TaggedDemand wanted count sheet c m fuel bytes rows handler (leaves d)
-    tagged-left (Decode.refused r) h g =
-        record {
-          only = λ q e. g.only q (ap (λ (x : Left). x.ended) e);
-          always = λ q h. ap (λ x. left x handler) (g.always q h);
-          otherwise = g.otherwise;
-        }
-    tagged-left (Decode.accepted cs) (passes none) g =
-        record {
-          only = λ q e. g.only q (ap (λ (x : Left). x.ended) e);
-          always = λ q h. absurd (none q h);
-          otherwise = g.otherwise;
-        }
+  tagged-left : (d : Decoded) → Decides checks (limit_of d)
+      → Demand checks (λ r. (leaves d).ended ≡ ended (Answer.Refused r) (tag_of row) m) (StoppedBy fuel (leaves d).ended)
+      → TaggedDemand sheet c m fuel bytes row handler (leaves d)
+  tagged-left (Decode.refused r) h g =
+      record {
+        only = λ q e. g.only q (ap (λ (x : Left). x.ended) e);
+        always = λ q h. ap (λ x. left x handler) (g.always q h);
+        otherwise = g.otherwise;
+      }
+  tagged-left (Decode.accepted cs) (passes none) g =
+      record {
+        only = λ q e. g.only q (ap (λ (x : Left). x.ended) e);
+        always = λ q h. absurd (none q h);
+        otherwise = g.otherwise;
+      }
 
 pub tagged-demand : TaggedClaim
-unfolding tag_engine start_of
-tagged-demand wanted count sheet c m fuel bytes rows handler whole =
+unfolding tagged start_of
+tagged-demand sheet c m fuel bytes row handler =
     let decides =
-    start-decides sheet c m fuel (tagged_own wanted count bytes rows handler) (own_of wanted count (read_table bytes) rows (length handler))
-    (tagged-owns wanted count bytes rows handler whole (read_table bytes) refl) (decode sheet) refl in
-    let d = start_tagged wanted count sheet (read_table bytes) rows c m handler fuel in
-    tagged-left wanted count sheet c m fuel bytes rows handler d decides
-    (engine-demand (tag_ruler (handler_of (read_table bytes))) (tag_of rows) c m fuel d decides)
+    start-decides sheet c m fuel (tagged_own bytes row handler) (own_of (read_table bytes) row (length handler))
+    (tagged-owns bytes row handler (read_table bytes) refl) (decode sheet) refl in
+    let d = start_tagged sheet (read_table bytes) row c m handler fuel in
+    tagged-left sheet c m fuel bytes row handler d decides
+    (engine-demand (tag_ruler (handler_of (read_table bytes))) (tag_of row) c m fuel d decides)

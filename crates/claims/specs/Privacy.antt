@@ -1,7 +1,7 @@
--- Demand 3: what a reader of a set of owners sees of two whole runs, each on any engine, from starts that its engine accepts; and what
--- the end line tells him. A run is what the engines' contracts say of it (`plain`, `tag_engine`). This file states it; proofs/Private.antt
+-- Demand 3: what a reader of a set of owners sees of two whole runs, each on either engine, from starts that its engine accepts; and what
+-- the end line tells him. A run is what the engines' contracts say of it (`plain`, `tagged`). This file states it; proofs/Private.antt
 -- shows it.
-use Rattle.std.specs.Prelude.{ℕ, ◌≡◌, true, List, ℤ}
+use Rattle.std.specs.Prelude.{ℕ, ◌≡◌, true, List, ℤ, length}
 use Rattle.word.specs.Field.{Bytes}
 use Rattle.label.specs.Label.{flows}
 use Rattle.machine.specs.Atom.{Atom, Line}
@@ -19,8 +19,7 @@ use Rattle.engine.specs.Ended.{ended}
 use Rattle.policy.specs.Standard.{standard_bytes}
 use Rattle.plain.specs.Plain.{plain}
 use Rattle.tagging.specs.Consult.{Tag}
-use Rattle.tagged.specs.Tagged.{left, tag_engine, tagged}
-use Rattle.claims.specs.Refusals.{Given}
+use Rattle.tagged.specs.Tagged.{left, tagged}
 
 abbrev pub cells_in : Memory → List Atom
 cells_in m = cells_of m.lent.cells
@@ -30,7 +29,7 @@ abbrev pub lines_in : Engine.Ran → Memory → List Line
 lines_in ran m = lines_of ran.machine.lines m.output
 
 -- a sheet was run, with which clearances, from which cells, where it ended and with which lines: an engine accepted the start and the run
--- met a stop. Of the lent memory, the allowance and, on a tag engine, the rule memory of one row or of 64 and the handler space nothing is
+-- met a stop. Of the lent memory, the allowance and, on the tag engine, the rule memory of seven words and the handler space nothing is
 -- asked but that; its table is the standard one
 pub data Ran (sheet : List ℕ) (c : Clearances) : List Atom → Engine.Ran → List Line → Type 0 where
   on_plain :
@@ -38,16 +37,12 @@ pub data Ran (sheet : List ℕ) (c : Clearances) : List Atom → Engine.Ran → 
       → plain sheet c m fuel ≡ ended (Answer.Stopped ran) tt after
       → Ran sheet c (cells_in m) ran (lines_in ran after)
   on_tagged :
-      (row : List ℤ) (m : Memory) (handler : List ℤ) (fuel : ℕ) (ran : Engine.Ran) (u : Tag) (after : Memory) (handler' : List ℤ)
+      (row : List ℤ) → length row ≡ 7
+      → (m : Memory) (handler : List ℤ) (fuel : ℕ) (ran : Engine.Ran) (u : Tag) (after : Memory) (handler' : List ℤ)
       → tagged sheet standard_bytes row c m handler fuel ≡ left (ended (Answer.Stopped ran) u after) handler'
       → Ran sheet c (cells_in m) ran (lines_in ran after)
-  on_rows :
-      (count : ℕ) (rows : List (List ℤ)) → Given 64 count rows
-      → (m : Memory) (handler : List ℤ) (fuel : ℕ) (ran : Engine.Ran) (u : Tag) (after : Memory) (handler' : List ℤ)
-      → tag_engine 64 count sheet standard_bytes rows c m handler fuel ≡ left (ended (Answer.Stopped ran) u after) handler'
-      → Ran sheet c (cells_in m) ran (lines_in ran after)
 
--- for every set of owners, every sheet and any two runs of it from cells that are alike for the set, each on any of the three engines and with
+-- for every set of owners, every sheet and any two runs of it from cells that are alike for the set, each on either engine and with
 -- clearances of its own, the same or others: so are the two views
 abbrev pub Views : (List Line → List Line → Type 0) → Type 0
 Views So =

@@ -1,6 +1,6 @@
 -- Document 01's twelve starred readings, R1 to R12, with request U1's end lines, U2's stop 9, U4's pages and U5's clearances, and what
 -- they leave open: what is asked of the engines and of the page, and what each must give. proofs/Readings.antt computes them.
-use Rattle.std.specs.Prelude.{ℕ, ◌+◌, ◌^◌, ◌*◌, ◌-◌, List, [], ◌∷◌, ◌++◌, map, ℤ, pos, negsuc, length, get_or, replicate, set, take}
+use Rattle.std.specs.Prelude.{ℕ, ◌+◌, ◌^◌, ◌*◌, ◌-◌, List, [], ◌∷◌, ◌++◌, map, ℤ, pos, negsuc, replicate, set}
 use Rattle.program.specs.declared.Command.{Command}
 use Rattle.program.specs.declared.Command.TheVariants.{Add, Sub, Output, Push, Load, Store, Jump, Bnz, Call, Ret, OutputTo, CallN, RetV}
 use Rattle.program.specs.Encode.{encode}
@@ -15,8 +15,8 @@ use Rattle.engine.specs.Memory as Lent
 use Rattle.engine.specs.Ended.{Ended}
 use Rattle.plain.specs.Plain.{plain}
 use Rattle.policy.specs.Standard.{standard_bytes}
-use Rattle.tagging.specs.Consult.{Cache, Tag}
-use Rattle.tagged.specs.Tagged.{tag_engine, tagged}
+use Rattle.tagging.specs.Consult.{Tag}
+use Rattle.tagged.specs.Tagged.{tagged}
 use Rattle.report.specs.Page.{zeros, lent_for, handler_space, page_of}
 use Rattle.claims.specs.Privacy.{cells_in, lines_in}
 
@@ -33,24 +33,20 @@ pub record Setting : Type 0 where
   pub room : ℕ
   pub fuel : ℕ
 
--- a start of the tag engine, and of the plain engine; the cells and the rule memory that the tag engine's run leaves; a start of the engine of
--- 64 rows, and the rows that its run leaves; a job's page
+-- a start of the tag engine, and of the plain engine; the cells and the rule memory that the tag engine's run leaves; a job's page
 pub data Question : Type 0 where
   start_of : Setting → Question
   plain_start : Setting → Question
   cells_after : Setting → Question
   row_after : Setting → Question
-  rows_start : List (List ℤ) → Setting → Question
-  rows_after : List (List ℤ) → Setting → Question
   page_for : List ℕ → Question
 
--- a refusal's number and place; a run's stop, steps and lines; the cells; the seven words; the turn and the rows before it; the bytes
+-- a refusal's number and place; a run's stop, steps and lines; the cells; the seven words; the bytes
 pub data Given : Type 0 where
   refused : (number place : ℕ) → Given
   run : (stop steps : ℕ) → List Line → Given
   memory : List Atom → Given
   words : List ℤ → Given
-  filling : (turn : ℕ) → List (List ℤ) → Given
   page : List ℕ → Given
 
 -- what is lent: C0 = 7 label 0 and C1 with label 1, and the page program's spaces but for its lines
@@ -64,11 +60,6 @@ lent_to s =
 abbrev pub execute : Setting → Ended Tag
 execute s = (tagged (encode s.program) standard_bytes s.row s.clearances (lent_to s) handler_space s.fuel).ended
 
--- the engine of 64 rows, from these
-abbrev pub execute_rows : List (List ℤ) → Setting → Ended Tag
-execute_rows rows s =
-    (tag_engine 64 (length rows) (encode s.program) standard_bytes rows s.clearances (lent_to s) handler_space s.fuel).ended
-
 abbrev pub ending : Answer → Memory → Given
 ending (Answer.Refused r) m = refused r.code r.position
 ending (Answer.Stopped x) m = run x.stop x.steps (lines_in x m)
@@ -77,9 +68,7 @@ unfoldable pub given : Question → Given
 given (start_of s) = let e : Ended Tag = execute s in ending e.answer e.memory
 given (plain_start s) = let e : Ended Unit = plain (encode s.program) s.clearances (lent_to s) s.fuel in ending e.answer e.memory
 given (cells_after s) = memory (cells_in (execute s).memory)
-given (row_after s) = words (get_or (execute s).ruler.cache.rows 0 [])
-given (rows_start rows s) = let e : Ended Tag = execute_rows rows s in ending e.answer e.memory
-given (rows_after rows s) = let c : Cache = (execute_rows rows s).ruler.cache in filling c.turn (take c.turn c.rows)
+given (row_after s) = words (execute s).ruler.row
 given (page_for job) = page (page_of job)
 
 -- one thing that a reading says
@@ -130,9 +119,6 @@ paid fuel program = narrow 16 fuel program
 
 abbrev pub from : List ℤ → Setting
 from row = record { program = []; c1 = pos 5; row = row; clearances = all_cleared; room = 16; fuel = 1_000_000 }
-
-abbrev pub empty64 : List (List ℤ)
-empty64 = replicate 64 (zeros 7)
 
 -- a start of the tag engine alone, for its rule memory
 abbrev pub only : Setting → Given → List Fact
@@ -409,16 +395,4 @@ others =
     -- sixteen arguments are refused, and two results, at the command's offset
     ∷ each (usual (Ret ∷ CallN (calls 16 0) ∷ [])) (refused 14 1)
     ∷ each (usual (Ret ∷ CallN (calls 0 2) ∷ [])) (refused 14 1)
-    -- request U7: 64 rows have the run that one row has; each key's first command fills a row, from row 0 on, and a match moves no turn
-    ∷ (fact (rows_start empty64 (usual (made (pos 1) (pos 2) Add))) (run 0 4 (line (pos 3) 0 ∷ ends 0))
-    ∷ fact (rows_after empty64 (usual (made (pos 1) (pos 2) Add)))
-    (filling 3
-    ((pos 5 ∷ pos 0 ∷ negsuc 0 ∷ negsuc 0 ∷ negsuc 0 ∷ pos 0 ∷ pos 0 ∷ [])
-    ∷ (pos 1 ∷ pos 0 ∷ pos 0 ∷ pos 0 ∷ negsuc 0 ∷ pos 0 ∷ pos 0 ∷ [])
-    ∷ (pos 4 ∷ pos 0 ∷ pos 0 ∷ negsuc 0 ∷ negsuc 0 ∷ pos 0 ∷ pos 0 ∷ [])
-    ∷ []))
-    -- a row that is refused is named; other than 64 rows are refused at 64
-    ∷ fact (rows_start (set empty64 5 (call_row 2)) (usual [])) (refused 7 5)
-    ∷ fact (rows_start (replicate 63 (zeros 7)) (usual [])) (refused 7 64)
-    ∷ [])
     ∷ []

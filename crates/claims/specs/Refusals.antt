@@ -1,4 +1,4 @@
--- Demand 1 for every engine, of what their contracts say (`plain`, `tag_engine`): a start is refused by the first of document 01's checks that
+-- Demand 1 for every engine, of what their contracts say (`plain`, `tagged`): a start is refused by the first of document 01's checks that
 -- applies, with its number and place, and then all that was lent is as it came; every other start is run to one of the eleven stops
 -- within its allowance. This file states it; proofs/Refusals.antt shows it.
 use Rattle.std.specs.Prelude.{ℕ, suc, ◌*◌, ◌^◌, ◌<◌, ◌≤◌, min, ◌≡◌, ◌≢◌, false, List, [], ◌∷◌, ℤ, pos, negsuc, length}
@@ -17,7 +17,7 @@ use Rattle.policy.specs.Read.{table, read_table}
 use Rattle.policy.specs.Read as Read
 use Rattle.policy.specs.Row.{accepted_row}
 use Rattle.handler.specs.Translate.{translate}
-use Rattle.tagged.specs.Tagged.{Left, left, tag_of, tag_engine}
+use Rattle.tagged.specs.Tagged.{Left, left, tag_of, tagged}
 
 -- ════════════════════════════════════════════════════════════════════════════════════════════
 -- Checks
@@ -74,17 +74,12 @@ pub record Own : Type 1 where
 abbrev pub none_own : Own
 none_own = record { rules = λ r. ⊥; row = λ r. ⊥; handler = λ r. ⊥ }
 
--- 7, of the rows from i on: the first that is neither empty nor an allowed row of this table
-abbrev pub Rows : List ℕ → ℕ → List (List ℤ) → Check
-Rows bytes i [] = λ r. ⊥
-Rows bytes i (ws ∷ rows) = Gives (OfTable bytes (λ t. accepted_row t ws ≡ false)) (refusal 7 i) before Rows bytes (suc i) rows
-
--- of how many rows are wanted and how many were given, a table's bytes, the rows and the handler space
-abbrev pub tagged_own : (wanted count : ℕ) → List ℕ → List (List ℤ) → (handler : List ℤ) → Own
-tagged_own wanted count bytes rows handler =
+-- of a table's bytes, the rule memory and the handler space
+abbrev pub tagged_own : List ℕ → (row handler : List ℤ) → Own
+tagged_own bytes row handler =
     record {
       rules = λ r. read_table bytes ≡ Read.refused r;
-      row = Gives (count ≢ wanted) (refusal 7 wanted) before Rows bytes 0 rows;
+      row = Gives (OfTable bytes (λ t. accepted_row t row ≡ false)) (refusal 7 0);
       handler = Gives (OfTable bytes (λ t. length handler < 2 * length (translate t))) (refusal 8 3);
     }
 
@@ -131,10 +126,9 @@ abbrev pub StoppedBy : {R : Type 0} → ℕ → Ended R → Type 0
 StoppedBy {R} fuel x =
     (ran : Ran) × (u : R) × (after : Memory) × (x ≡ ended (Answer.Stopped ran) u after) × (ran.stop ≤ 11) × (ran.steps ≤ fuel)
 
-abbrev pub TaggedDemand : (wanted count : ℕ) → List ℕ → Clearances → Memory → ℕ → List ℕ → List (List ℤ) → (handler : List ℤ) → Left → Type 0
-TaggedDemand wanted count sheet c m fuel bytes rows handler x =
-    Demand (Checks sheet c m fuel (tagged_own wanted count bytes rows handler))
-    (λ r. x ≡ left (ended (Answer.Refused r) (tag_of rows) m) handler)
+abbrev pub TaggedDemand : List ℕ → Clearances → Memory → ℕ → List ℕ → (row handler : List ℤ) → Left → Type 0
+TaggedDemand sheet c m fuel bytes row handler x =
+    Demand (Checks sheet c m fuel (tagged_own bytes row handler)) (λ r. x ≡ left (ended (Answer.Refused r) (tag_of row) m) handler)
     (StoppedBy fuel x.ended)
 
 -- for all arguments
@@ -144,13 +138,7 @@ PlainClaim =
     → let x : Ended Unit = plain sheet c m fuel in
     Demand (Checks sheet c m fuel none_own) (λ r. x ≡ ended (Answer.Refused r) tt m) (StoppedBy fuel x)
 
--- where as many rows were given as are wanted, these are they: of one row, of 64 that are lent, of 448 words
-abbrev pub Given : (wanted count : ℕ) → List (List ℤ) → Type 0
-Given wanted count rows = count ≡ wanted → length rows ≡ wanted
-
--- for any number of rows
 abbrev pub TaggedClaim : Type 0
 TaggedClaim =
-    (wanted count : ℕ) (sheet : List ℕ) (c : Clearances) (m : Memory) (fuel : ℕ) (bytes : List ℕ) (rows : List (List ℤ)) (handler : List ℤ)
-    → Given wanted count rows
-    → TaggedDemand wanted count sheet c m fuel bytes rows handler (tag_engine wanted count sheet bytes rows c m handler fuel)
+    (sheet : List ℕ) (c : Clearances) (m : Memory) (fuel : ℕ) (bytes : List ℕ) (row handler : List ℤ)
+    → TaggedDemand sheet c m fuel bytes row handler (tagged sheet bytes row c m handler fuel)

@@ -1,6 +1,5 @@
 // What C and Rust link: the functions of include/luvrodan.h over the proved engines. Read specs/Exported.antt first.
 mod clearance;
-mod filling;
 mod result;
 mod row;
 
@@ -14,7 +13,7 @@ ghost use Rattle.engine.specs.Memory.{output, memory};
 ghost use Rattle.exports.specs.Exported.{plain_left, exported_plain, tagged_left, exported_tagged, page_left, exported_page};
 ghost use Rattle.exports.specs.Exported.{ExportedPromises, written_left, exported_written};
 
-use result::{LuvrodanPageResult, LuvrodanResult, LuvrodanRowsResult, LuvrodanWritten};
+use result::{LuvrodanPageResult, LuvrodanResult, LuvrodanWritten};
 
 // A run under the standard rules.
 #[unsafe(no_mangle)]
@@ -110,48 +109,6 @@ pub extern "C" fn luvrodan_tagged(
     row::leave(rule_memory, tagged.cache);
     let answer = tagged.answer;
     result::of_answer(answer, tagged.faults, tagged.kernel)
-}
-
-// A run on the tag engine of 64 rows, under the rules of a table. The rows are 448 lent words.
-#[unsafe(no_mangle)]
-pub extern "C" fn luvrodan_rows(
-    sheet: &[u8],
-    values: &mut [i64],
-    labels: &mut [i64],
-    clearances: &[i64],
-    table: &[u8],
-    rule_memory: &mut [i64],
-    program: &mut [i64],
-    stack: &mut [i64],
-    handler: &mut [i64],
-    numbers: &mut [i64],
-    line_labels: &mut [i64],
-    kinds: &mut [i64],
-    pages: &mut [i64],
-    fuel: u64,
-) -> LuvrodanRowsResult {
-    let mut rows: [[i64; 7]; 64] = [[0; 7]; 64];
-    let count = filling::given(rule_memory, &mut rows);
-    let answered = tagged::execute_rows(
-        count,
-        sheet,
-        values,
-        labels,
-        clearance::given(clearances),
-        table,
-        &mut rows,
-        program,
-        stack,
-        handler,
-        numbers,
-        line_labels,
-        kinds,
-        pages,
-        fuel,
-    );
-    filling::leave(rule_memory, &rows);
-    let answer = answered.answer;
-    result::of_rows(answer, answered.turn, answered.faults, answered.kernel)
 }
 
 // How many kernel commands the handler of a table has; 0 where the bytes are no table.

@@ -24,14 +24,6 @@ pub struct LuvrodanResult {
     pub kernel: u64,
 }
 
-// What a run on the engine of 64 rows came to: `luvrodan_rows_result`, with the row whose turn it is.
-#[repr(C)]
-#[derive(Drop)]
-pub struct LuvrodanRowsResult {
-    pub run: LuvrodanResult,
-    pub turn: u64,
-}
-
 // What a page came to: `luvrodan_page_result`.
 #[repr(C)]
 #[derive(Drop)]
@@ -90,15 +82,6 @@ pub(crate) fn of_answer(answer: Answer, faults: u64, kernel: u64) -> LuvrodanRes
     match answer {
         Answer::Refused(r) => refused(r),
         Answer::Stopped(ran) => stopped(ran.machine, ran.stop, ran.steps, faults, kernel),
-    }
-}
-
-// With the turn; 0 where the start was refused.
-pub(crate) fn of_rows(answer: Answer, turn: usize, faults: u64, kernel: u64) -> LuvrodanRowsResult {
-    let run = of_answer(answer, faults, kernel);
-    LuvrodanRowsResult {
-        run,
-        turn: turn as u64,
     }
 }
 

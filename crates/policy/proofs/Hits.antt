@@ -32,7 +32,7 @@ unfolding stored
 stored-in-range l h = rw (lt-ltb l (2 ^ principals) h)
 
 -- a word that stores a label is that label
-pub stored_back : (w : ℤ) (l : ℕ) → is_stored (stored w) l ≡ true → w ≡ pos l
+stored_back : (w : ℤ) (l : ℕ) → is_stored (stored w) l ≡ true → w ≡ pos l
 unfolding stored
 stored_back (pos n) l e = by-test (ltb n (2 ^ principals)) e
   where
@@ -70,16 +70,16 @@ input-word false missing h = refl
 -- The key of a row
 -- ════════════════════════════════════════════════════════════════════════════════════════════
 
-pub record Some {A : Type 0} (x : Option A) (P : A → Type 0) : Type 0 where
-  pub value : A
-  pub is : x ≡ some value
-  pub then : P value
+record Some {A : Type 0} (x : Option A) (P : A → Type 0) : Type 0 where
+  value : A
+  is : x ≡ some value
+  then : P value
 
 given-some : {A B : Type 0} (x : Option A) (f : A → Option B) (y : B) → given x f ≡ some y → Some x (λ a. f a ≡ some y)
 given-some none f y e = absurd (let z : ◌≡◌ {A = ℕ} 0 1 = cc in omega arith)
 given-some (some a) f y e = record { value = a; is = refl; then = e }
 
-pub holds-some : {A : Type 0} (x : Option A) (f : A → Bool) → holds x f ≡ true → Some x (λ a. f a ≡ true)
+holds-some : {A : Type 0} (x : Option A) (f : A → Bool) → holds x f ≡ true → Some x (λ a. f a ≡ true)
 holds-some none f e = absurd (let z : ◌≡◌ {A = ℕ} 0 1 = cc in omega arith)
 holds-some (some a) f e = record { value = a; is = refl; then = e }
 

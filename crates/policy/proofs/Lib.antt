@@ -5,6 +5,5 @@ pub mod Writable
 pub mod Standard
 pub mod Rows
 pub mod Hits
-pub mod Twins
 pub mod Readings
 pub mod Before

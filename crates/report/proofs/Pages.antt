@@ -23,7 +23,7 @@ use Rattle.policy.specs.Read.{read_table}
 use Rattle.handler.specs.Translate.{handler_of}
 use Rattle.tagging.specs.Consult.{Tag, tag_ruler}
 use Rattle.tagged.specs.Start.{own_of}
-use Rattle.tagged.specs.Tagged.{tag_of, start_tagged, tagged_of, tag_engine}
+use Rattle.tagged.specs.Tagged.{tag_of, start_tagged, tagged_of, tagged}
 use Rattle.report.specs.Lines.{PageWords}
 use Rattle.report.specs.Page.{zeros, lent_for, handler_space, end_for}
 
@@ -49,19 +49,19 @@ module _ (c : Cells) (allowance : ℕ) (sheet : List ℕ) (bytes : Bytes sheet) 
   m = lent_for c
 
   abbrev PagesIn : Decoded → Type 0
-  PagesIn d = PageWords (tagged_of d (read_table standard_bytes) (zeros 7 ∷ []) all_cleared m handler_space allowance).ended.memory.output.pages
+  PagesIn d = PageWords (tagged_of d (read_table standard_bytes) (zeros 7) all_cleared m handler_space allowance).ended.memory.output.pages
 
   pub end-pages : PageWords (end_for c allowance sheet).ended.memory.output.pages
-  unfolding tag_engine
-  end-pages = by (start_tagged 1 1 sheet (read_table standard_bytes) (zeros 7 ∷ []) all_cleared m handler_space allowance) refl
+  unfolding tagged
+  end-pages = by (start_tagged sheet (read_table standard_bytes) (zeros 7) all_cleared m handler_space allowance) refl
     where
-      by : (d : Decoded) → start_tagged 1 1 sheet (read_table standard_bytes) (zeros 7 ∷ []) all_cleared m handler_space allowance ≡ d → PagesIn d
+      by : (d : Decoded) → start_tagged sheet (read_table standard_bytes) (zeros 7) all_cleared m handler_space allowance ≡ d → PagesIn d
       by (refused r) e = zero-pages 1024
       by (accepted cs) e =
-          let own = own_of 1 1 (read_table standard_bytes) (zeros 7 ∷ []) (length handler_space) in
+          let own = own_of (read_table standard_bytes) (zeros 7) (length handler_space) in
           let fine = start_fine sheet all_cleared m allowance own cs e in
           let ρ = tag_ruler (handler_of (read_table standard_bytes)) in
-          laid-pages (result_of ρ cs (tag_of (zeros 7 ∷ [])) all_cleared m allowance).state.lines (zeros 1024)
+          laid-pages (result_of ρ cs (tag_of (zeros 7)) all_cleared m allowance).state.lines (zeros 1024)
           (pages-kept Tag ρ (surroundings all_cleared m.output) cs
-          (decoded-pages sheet cs bytes fine.decoded) allowance (cells_of c) (tag_of (zeros 7 ∷ [])))
+          (decoded-pages sheet cs bytes fine.decoded) allowance (cells_of c) (tag_of (zeros 7)))
           (zero-pages 1024)

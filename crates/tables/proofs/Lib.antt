@@ -4,4 +4,3 @@ pub mod RuleReading
 pub mod TableReading
 pub mod Asking
 pub mod RowKeys
-pub mod RowsReading

@@ -1,4 +1,3 @@
 pub mod Value
 pub mod Ask
 pub mod RowCode
-pub mod Rows

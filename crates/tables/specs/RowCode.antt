@@ -11,9 +11,11 @@ use Rattle.tables.specs.declared.Verdict.{Verdict}
 use Rattle.tables.specs.declared.Verdict.TheVariants as Verdict
 use Rattle.tables.specs.declared.row.Found.{Found}
 use Rattle.tables.specs.declared.row.Found.TheVariants as Found
+use Rattle.tables.specs.declared.row.Inspected.{Inspected}
 use Rattle.tables.specs.Value.{label_with}
+use Rattle.tables.specs.Ask.{check_answer}
 use Rattle.policy.specs.Read.{ReadTable, refused, table}
-use Rattle.policy.specs.Row.{is_mark, is_stored, word, row_of}
+use Rattle.policy.specs.Row.{is_mark, is_stored, word, row_of, row_answer}
 
 abbrev pub mark_if : Bool → Stored
 mark_if true = Stored.Of (label_with bottom)
@@ -55,3 +57,7 @@ row_labels n ws =
 abbrev pub row_in : ReadTable → Option Opcode → List ℤ → Bool
 row_in (refused r) x ws = false
 row_in (table t) x ws = row_of t x ws
+
+-- checks 6 and 7
+abbrev pub inspected : ReadTable → List ℤ → Inspected
+inspected rules ws = record { table = check_answer rules; row = row_answer rules ws }

@@ -1,11 +1,10 @@
 // Check 7, beside check 6. Read specs/Row.antt of `policy` first; specs/RowCode.antt says what the code finds of a row.
-ghost use Rattle.std.specs.Prelude.{◌≡◌, [], ◌<◌, length, get_or};
+ghost use Rattle.std.specs.Prelude.{◌≡◌};
 ghost use Rattle.label.specs.Word.{stored};
 ghost use Rattle.policy.specs.Read.{read_table};
 ghost use Rattle.policy.specs.Row.{is_mark, is_stored, row_answer};
 ghost use Rattle.tables.specs.Ask.{Readable};
-ghost use Rattle.tables.specs.RowCode.{input_stored, labels_from, verdict_agrees, row_labels, row_in};
-ghost use Rattle.tables.specs.Rows.{first_refused, inspected};
+ghost use Rattle.tables.specs.RowCode.{input_stored, labels_from, verdict_agrees, row_labels, row_in, inspected};
 ghost use Rattle.program.specs.Command.{opcode_of};
 
 use crate::{Checked, Labels, Verdict};
@@ -14,11 +13,11 @@ use policy::row::Cache;
 use program::Shape;
 use word::number::Natural;
 
-// What a table and a rule memory are found to be: check 6, and the number of the first row that check 7 refuses, or how many rows there are.
+// What a table and a rule memory are found to be: check 6, and whether check 7 accepts the row.
 #[derive(Drop)]
 pub struct Inspected {
     pub table: Checked,
-    pub refused: usize,
+    pub row: bool,
 }
 
 // The labels that a row asks with, if its words are such.
@@ -141,43 +140,19 @@ fn check_row(bytes: &[u8], cache: Cache) -> bool
     }
 }
 
-// One of many.
-fn check_row_at(bytes: &[u8], rows: &[[i64; 7]], i: usize) -> bool
-    requires { Readable (read_table bytes.now) × (i < length rows.now) }
-    ensures { result ≡ row_answer (read_table bytes.now) (get_or rows.now i []) }
-{
-    let words = rows[i];
-    check_row(bytes, Cache { words })
-}
-
-fn first_refused(bytes: &[u8], rows: &[[i64; 7]]) -> usize
-    requires { Readable (read_table bytes.now) }
-    ensures { result ≡ first_refused (read_table bytes.now) rows.now }
-{
-    let mut i: usize = 0;
-    while i < rows.len() {
-        if check_row_at(bytes, rows, i) {
-            i += 1;
-        } else {
-            return i;
-        }
-    }
-    i
-}
-
-// Checks 6 and 7 over any bytes and any rows; where the bytes are no table, no row is looked at.
-pub fn inspect(bytes: &[u8], rows: &[[i64; 7]]) -> Inspected
-    ensures { result ≡ inspected (read_table bytes.now) rows.now }
+// Checks 6 and 7 of document 01 over any bytes and any seven words; where the bytes are no table, only the empty row is accepted.
+pub fn inspect(bytes: &[u8], cache: Cache) -> Inspected
+    ensures { result ≡ inspected (read_table bytes.now) cache.words }
 {
     let checked = crate::check_table(bytes);
     match checked {
         Checked::Accepted => Inspected {
             table: Checked::Accepted,
-            refused: first_refused(bytes, rows),
+            row: check_row(bytes, cache),
         },
         Checked::Refused(r) => Inspected {
             table: Checked::Refused(r),
-            refused: rows.len(),
+            row: cache.is_empty(),
         },
     }
 }

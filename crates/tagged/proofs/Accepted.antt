@@ -2,30 +2,26 @@
 -- space, and what the loop leaves is the definition's.
 -- Assumes nothing.
 use mathlib.Core.Path.{◌≡◌, refl, sym, ap₂, ◌∙◌}
-use mathlib.Core.Bool.{Bool, true, false}
-use mathlib.Core.List.{List, [], ◌∷◌}
-use Prim.Native.Nat.{ℕ, suc, ◌*◌, ◌≤◌}
-use native.Mathlib.Omega.{arith}
+use mathlib.Core.Bool.{true}
+use mathlib.Core.List.{List}
+use Prim.Native.Nat.{ℕ, ◌*◌, ◌≤◌}
 use lib.IntN.{ℤ}
 use lib.ListN.{length}
-use lib.Dec.{leb, eqb}
-use borrow.Author.Tests.{leb-true, eqb-true}
-use Rattle.word.specs.Choose.{choose}
+use borrow.Author.Tests.{leb-true}
 use Rattle.word.specs.Field.{Bytes}
 use Rattle.word.specs.Lay.{laid}
 use Rattle.word.proofs.Bool.{never}
 use Rattle.program.specs.declared.Command.{Command}
 use Rattle.program.specs.declared.Refusal.{Refusal}
 use Rattle.program.specs.declared.Checked.TheVariants as Checked
-use Rattle.program.specs.Decode.{Decoded, refused, accepted, refusal, check_answer}
+use Rattle.program.specs.Decode.{Decoded, refused, accepted, check_answer}
 use Rattle.program.specs.Space.{program_words}
 use Rattle.stack.specs.Words.{started}
 use Rattle.engine.specs.declared.Clearances.{Clearances}
 use Rattle.engine.specs.declared.Answer.TheVariants as Answer
-use Rattle.engine.specs.declared.start.Limit.TheVariants.{Broken, Kept}
+use Rattle.engine.specs.declared.start.Limit.TheVariants.{Kept}
 use Rattle.engine.specs.declared.start.Own.{Own}
 use Rattle.engine.specs.Memory.{Memory, memory, surroundings}
-use Rattle.engine.specs.Start.{kept_if}
 use Rattle.engine.specs.Loop.{Done, loop_of}
 use Rattle.engine.specs.Ended.{ended}
 use Rattle.engine.proofs.Accepted.{test-kept, answer, Fine, start_fine, refused-is, loop-whole}
@@ -33,20 +29,17 @@ use Rattle.policy.specs.Expression.{Table}
 use Rattle.policy.specs.Read.{ReadTable, table, read_table}
 use Rattle.policy.specs.Read as Read
 use Rattle.policy.specs.Row.{accepted_row}
-use Rattle.tables.specs.Rows.{refused_row}
 use Rattle.policy.proofs.Writable.{read-writable}
 use Rattle.handler.specs.Kernel.{handle}
 use Rattle.handler.specs.Space.{kernel_words, handle_space}
 use Rattle.handler.specs.Translate.{translate, handler_of}
 use Rattle.handler.proofs.Shape.{handler-length}
 use Rattle.handler.proofs.Space.{handle_space-laid}
-use Rattle.machine.specs.Holds.{Each}
 use Rattle.tagging.specs.Consult.{Tag, tag_ruler}
-use Rattle.tagging.specs.Claim.{Fits}
 use Rattle.tagging.proofs.Ruled.{rules-range}
 use Rattle.tagged.specs.Ruling.{tag_words}
-use Rattle.tagged.specs.Start.{rules_limit, rows_limit, own_of}
-use Rattle.tagged.specs.Tagged.{left, tag_of, handler_after, tagged_of, tag_engine}
+use Rattle.tagged.specs.Start.{rules_limit, own_of}
+use Rattle.tagged.specs.Tagged.{left, tag_of, handler_after, tagged_of, tagged}
 use Rattle.tagged.proofs.Following.{tag-follows}
 
 -- a table that is kept
@@ -54,37 +47,13 @@ table_kept : (q : ReadTable) → rules_limit q ≡ Kept → (t : Table) × (q �
 table_kept (Read.refused r) e = never (cc)
 table_kept (table t) e = (t, refl)
 
--- rows that are kept are as many as are count, and each is accepted
-rows-accepted : (t : Table) (rows : List (List ℤ)) → length rows ≤ refused_row t rows → Each (Fits t) rows
-rows-accepted t [] h = tt
-rows-accepted t (ws ∷ rows) h = go (accepted_row t ws) refl h (rows-accepted t rows)
-  where
-    go : (b : Bool) → accepted_row t ws ≡ b → suc (length rows) ≤ choose b (suc (refused_row t rows)) 0
-        → (length rows ≤ refused_row t rows → Each (Fits t) rows)
-        → (accepted_row t ws ≡ true) × Each (Fits t) rows
-    go true e h on = (e, on (omega arith))
-    go false e h on = absurd (omega arith)
-
-pub rows_fit : (wanted count : ℕ) (t : Table) (rows : List (List ℤ)) → rows_limit wanted count (table t) rows ≡ Kept
-    → (count ≡ wanted → length rows ≡ wanted) → Each (Fits t) rows
-rows_fit wanted count t rows e whole = go (eqb count wanted) refl e
-  where
-    go : (b : Bool) → eqb count wanted ≡ b
-        → choose b (kept_if (leb wanted (refused_row t rows)) (refusal 7 (refused_row t rows))) (Broken (refusal 7 wanted)) ≡ Kept
-        → Each (Fits t) rows
-    go true d e =
-        let past : wanted ≤ refused_row t rows = leb-true _ _ (test-kept _ _ e) in
-        let many : length rows ≡ wanted = whole (eqb-true count wanted d) in
-        rows-accepted t rows (omega arith)
-    go false d e = never (cc)
-
 -- its handler is short
 pub handler-few : (bytes : List ℕ) (t : Table) → read_table bytes ≡ table t → length (translate t) ≤ 8192
 handler-few bytes t q = handler-length t (read-writable bytes t q)
 
-module _ (wanted count : ℕ) (sheet bytes : List ℕ) (rows : List (List ℤ)) (c : Clearances) (m : Memory) (handler : List ℤ) (fuel : ℕ) where
+module _ (sheet bytes : List ℕ) (row : List ℤ) (c : Clearances) (m : Memory) (handler : List ℤ) (fuel : ℕ) where
   abbrev own : Own
-  own = own_of wanted count (read_table bytes) rows (length handler)
+  own = own_of (read_table bytes) row (length handler)
 
   abbrev began : Decoded
   began = answer sheet c m fuel own
@@ -97,7 +66,7 @@ module _ (wanted count : ℕ) (sheet bytes : List ℕ) (rows : List (List ℤ)) 
   pub record Ready (cs : List Command) (t : Table) : Type 0 where
     pub fine : Fine sheet c m fuel own cs
     pub rules : read_table bytes ≡ table t
-    pub kept_rows : rows_limit wanted count (table t) rows ≡ Kept
+    pub kept_row : accepted_row t row ≡ true
     pub fits : 2 * length (translate t) ≤ length handler
 
   pub start-ready : (cs : List Command) → began ≡ accepted cs → (t : Table) × Ready cs t
@@ -110,7 +79,7 @@ module _ (wanted count : ℕ) (sheet bytes : List ℕ) (rows : List (List ℤ)) 
         record {
           fine = f;
           rules = q;
-          kept_rows = rw q at w;
+          kept_row = test-kept _ _ (rw q at w);
           fits = leb-true _ _ (test-kept _ _ (rw q at h));
         },
       )
@@ -120,9 +89,9 @@ module _ (wanted count : ℕ) (sheet bytes : List ℕ) (rows : List (List ℤ)) 
   -- ══════════════════════════════════════════════════════════════════════════════════════════
 
   pub execute-refused : (r : Refusal) → Checked.Refused r ≡ check_answer began
-      → left (ended (Answer.Refused r) (tag_of rows) m) handler ≡ tag_engine wanted count sheet bytes rows c m handler fuel
-  unfolding tag_engine
-  execute-refused r e = ap₂ left (refused-is sheet c m fuel own (tag_ruler (handler_of (read_table bytes))) (tag_of rows) r e) (kept began e)
+      → left (ended (Answer.Refused r) (tag_of row) m) handler ≡ tagged sheet bytes row c m handler fuel
+  unfolding tagged
+  execute-refused r e = ap₂ left (refused-is sheet c m fuel own (tag_ruler (handler_of (read_table bytes))) (tag_of row) r e) (kept began e)
     where
       kept : (d : Decoded) → Checked.Refused r ≡ check_answer d → handler ≡ handler_after d (read_table bytes) handler
       kept (refused q) e = refl
@@ -130,18 +99,18 @@ module _ (wanted count : ℕ) (sheet bytes : List ℕ) (rows : List (List ℤ)) 
 
   module _ (octets : Bytes sheet) (cs : List Command) (is : began ≡ accepted cs) (t : Table) (ready : Ready cs t) where
     -- the loop over the loaded program, with the handler that lies in the handler space
-    pub execute-accepted : (number : ℕ) → number ≡ length cs → (program space : List ℤ) (n : ℕ)
+    pub execute-accepted : (count : ℕ) → count ≡ length cs → (program space : List ℤ) (n : ℕ)
         → program ≡ laid (program_words cs) m.program → space ≡ laid (kernel_words (translate t)) handler → n ≡ length (translate t)
         → (d : Done Tag)
-        → d ≡ loop_of (tag_words (handle_space space n)) number (surroundings c m.output) program fuel 0 started (tag_of rows) m.lent m.output
+        → d ≡ loop_of (tag_words (handle_space space n)) count (surroundings c m.output) program fuel 0 started (tag_of row) m.lent m.output
         → left (ended (Answer.Stopped d.ran) d.ruler (memory program d.lent d.output)) space
-        ≡ tag_engine wanted count sheet bytes rows c m handler fuel
-    unfolding tag_engine
-    execute-accepted number k program space n p h size d g =
+        ≡ tagged sheet bytes row c m handler fuel
+    unfolding tagged
+    execute-accepted count k program space n p h size d g =
         let handles : (x : List ℤ) → handle_space space n x ≡ handle (translate t) x =
         λ x. ap₂ (λ y z. handle_space y z x) h size ∙ handle_space-laid (translate t) handler x in
         ap₂ left
         (loop-whole sheet c m fuel own octets cs ready.fine (tag_words (handle_space space n)) (tag_ruler (translate t))
-        (tag-follows (handle_space space n) (translate t) handles) (rules-range (translate t)) (tag_of rows) number k program p d g)
+        (tag-follows (handle_space space n) (translate t) handles) (rules-range (translate t)) (tag_of row) count k program p d g)
         h
-        ∙ sym (ap₂ (λ d q. tagged_of d q rows c m handler fuel) is ready.rules)
+        ∙ sym (ap₂ (λ d q. tagged_of d q row c m handler fuel) is ready.rules)

@@ -3,7 +3,6 @@
 use mathlib.Core.Path.{◌≡◌, sym, ap, ◌∙◌}
 use mathlib.Core.Bool.{Bool, true, false}
 use mathlib.Core.List.{List}
-use mathlib.Core.Option.{Option, none, some}
 use Prim.Native.Nat.{ℕ, ◌+◌, ◌*◌, ◌^◌, ◌<◌, ◌≤◌}
 use native.Mathlib.Nat.{zero-add, add-zero, mul-le-mul}
 use native.Mathlib.Omega.{arith}
@@ -17,20 +16,20 @@ use Rattle.step.specs.Lent.{Lent}
 use Rattle.step.specs.Find.{find_of}
 use Rattle.engine.specs.Act.{Acted, acted, act_of}
 use Rattle.handler.specs.Kernel.{Result}
-use Rattle.tagging.specs.Consult.{Five, missed, Cache, first_match, Tag, tag, consult_found, consult, counted}
+use Rattle.tagging.specs.Consult.{Tag, tag, Five, matches, missed, consult_if, consult, counted}
 use Rattle.tagged.specs.Ruling.{tag_words}
 
 -- what a command adds, its counts from zero on
 abbrev pub added : Tag → Tag → Tag
-added u v = tag v.cache (u.faults + v.faults) (u.kernel_steps + v.kernel_steps)
+added u v = tag v.row (u.faults + v.faults) (u.kernel_steps + v.kernel_steps)
 
 -- the counts after so many commands
 pub record Few (size steps : ℕ) (u : Tag) : Type 0 where
   pub faults : u.faults ≤ steps
   pub kernel_steps : u.kernel_steps ≤ steps * size
 
-pub few-none : (size : ℕ) (a : Cache) → Few size 0 (tag a 0 0)
-few-none size a = record { faults = omega arith; kernel_steps = omega arith }
+pub few-none : (size : ℕ) (row : List ℤ) → Few size 0 (tag row 0 0)
+few-none size row = record { faults = omega arith; kernel_steps = omega arith }
 
 module _ {size steps : ℕ} {u v : Tag} (g : Few size steps u) (h : Few size 1 v) where
   pub few-more : Few size (steps + 1) (added u v)
@@ -63,32 +62,32 @@ module _ (handler : List ℤ → Result) (word operand : ℤ) (m : Machine) (l :
   choose-added u true x y x' y' d e = d
   choose-added u false x y x' y' d e = e
 
-  added-all : (u : Tag) → let a : Acted Tag = acts (tag u.cache 0 0) in acts u ≡ acted a.after (added u a.ruler)
+  added-all : (u : Tag) → let a : Acted Tag = acts (tag u.row 0 0) in acts u ≡ acted a.after (added u a.ruler)
   unfolding act_of
   added-all u = choose-added u (eqb (find_of (residue 64 word) operand m l).stop carried_out) _ _ _ _ (simp zero-add) (simp add-zero)
 
   -- a command does the same whatever the counts are, and adds to them
-  pub act-added : (u : Tag) (a : Acted Tag) → a ≡ acts (tag u.cache 0 0) → acted a.after (added u a.ruler) ≡ acts u
+  pub act-added : (u : Tag) (a : Acted Tag) → a ≡ acts (tag u.row 0 0) → acted a.after (added u a.ruler) ≡ acts u
   act-added u a e = ap (λ a. acted a.after (added u a.ruler)) e ∙ sym (added-all u)
 
   module _ (size : ℕ) (short : (row : List ℤ) → (handler row).steps ≤ size) where
-    consult-few : (a : Cache) (f : Five) → Few size 1 (counted (tag a 0 0) (consult handler f a))
+    consult-few : (row : List ℤ) (f : Five) → Few size 1 (counted (tag row 0 0) (consult handler f row))
     unfolding consult
-    consult-few a f = go (first_match f a.rows)
+    consult-few row f = go (matches f row)
       where
-        go : (x : Option (List ℤ)) → Few size 1 (counted (tag a 0 0) (consult_found handler f a x))
-        go (some ws) = record { faults = omega arith; kernel_steps = omega arith }
-        go none = record { faults = omega arith; kernel_steps = omega (arith, short (missed f)) }
+        go : (b : Bool) → Few size 1 (counted (tag row 0 0) (consult_if b handler f row))
+        go true = record { faults = omega arith; kernel_steps = omega arith }
+        go false = record { faults = omega arith; kernel_steps = omega (arith, short (missed f)) }
 
     choose-few : (b : Bool) (x y : Acted Tag) → Few size 1 x.ruler → Few size 1 y.ruler → Few size 1 (choose b x y).ruler
     choose-few true x y f g = f
     choose-few false x y f g = g
 
-    few-all : (a : Cache) → Few size 1 (acts (tag a 0 0)).ruler
+    few-all : (row : List ℤ) → Few size 1 (acts (tag row 0 0)).ruler
     unfolding act_of
-    few-all a =
-        choose-few (eqb (find_of (residue 64 word) operand m l).stop carried_out) _ _ (consult-few a _)
+    few-all row =
+        choose-few (eqb (find_of (residue 64 word) operand m l).stop carried_out) _ _ (consult-few row _)
         (record { faults = omega arith; kernel_steps = omega arith })
 
-    pub act-few : (c : Cache) (a : Acted Tag) → a ≡ acts (tag c 0 0) → Few size 1 a.ruler
-    act-few c a e = rw e (few-all c)
+    pub act-few : (row : List ℤ) (a : Acted Tag) → a ≡ acts (tag row 0 0) → Few size 1 a.ruler
+    act-few row a e = rw e (few-all row)

@@ -1,4 +1,4 @@
--- The ruler on words follows a tag engine's ruler where the handler space holds the handler: a key's inputs are found on words as its
+-- The ruler on words follows the tag engine's ruler where the handler space holds the handler: a key's inputs are found on words as its
 -- command supplies them.
 -- Assumes nothing.
 use mathlib.Core.Path.{◌≡◌, refl, fun_ext}
@@ -49,8 +49,8 @@ module _ (code : ℤ) (pc n : ℕ) where
   five-for missing missing missing f g h = refl
 
 -- for a handler that handles rows as the instructions do
-pub tag-follows : (handler : List ℤ → Result) (code : List Instruction)
-    → ((row : List ℤ) → handler row ≡ handle code row) → Follows (tag_words handler) (tag_ruler code)
+pub tag-follows : (handler : List ℤ → Result) (code : List Instruction) → ((row : List ℤ) → handler row ≡ handle code row)
+    → Follows (tag_words handler) (tag_ruler code)
 tag-follows handler code same u k m =
     let five : five_for (asked_for k) ≡ five_of k =
     five-for (pos (code_of k.opcode)) k.pc (supplies k.opcode) k.input1 k.input2 k.input3

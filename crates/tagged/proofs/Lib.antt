@@ -1,5 +1,4 @@
 pub mod Seven
-pub mod Agreeing
 pub mod Acting
 pub mod Counts
 pub mod Following
@@ -7,4 +6,3 @@ pub mod Starting
 pub mod Accepted
 pub mod Reading
 pub mod Numbers
-pub mod One

@@ -1,25 +1,23 @@
--- Words as the code compares them, and consulting by how it goes.
+-- Words as the code compares them, seven words written one at a time, and consulting by how it goes.
 -- Assumes nothing.
 use mathlib.Core.Path.{◌≡◌, refl, sym, ap, ◌∙◌}
 use mathlib.Core.Bool.{Bool, true, false}
-use mathlib.Core.List.{List}
-use Prim.Native.Nat.{ℕ, suc, ◌+◌, ◌<◌, ◌≤◌, ◌^◌}
-use native.Mathlib.Omega.{arith}
-use native.Mathlib.Numerals.{add-one}
+use mathlib.Core.List.{List, [], ◌∷◌}
+use Prim.Native.Nat.{◌<◌, ◌^◌}
 use lib.IntN.{ℤ}
 use lib.Signed.{mag}
-use lib.ListN.{length, get_or}
+use lib.ListN.{length, set}
 use lib.Dec.{eqb}
-use borrow.Author.Tests.{eqb-true, eq-eqb, lt-ltb, le-ltb}
+use borrow.Author.Tests.{eqb-true, eq-eqb}
 use mir.Syntax.{w64}
 use mir.Val.{SFits, to_z, of_z}
 use Rattle.word.specs.Number.{same_word}
 use Rattle.word.proofs.Signed.{back, back-ok}
 use Rattle.word.proofs.Laws.Test.{same_word_lem, word_same}
-use Rattle.machine.specs.Rule.{Verdict}
 use Rattle.handler.specs.Kernel.{Outcome, Result}
-use Rattle.tagging.specs.Consult.{Five, missed, cache, next_turn, faulted, consult}
-use Rattle.tagged.specs.Ruling.{handling, empty_row, Finds, consulted_by, hit_by}
+use Rattle.tagging.specs.Consult.{Five, matches, missed, Consulted, faulted, consult_if, consult}
+use Rattle.tagging.proofs.Rules.{words-all}
+use Rattle.tagged.specs.Ruling.{ruling}
 
 -- words are compared by their bits
 pub same_test : (a b : ℤ) → SFits w64 a → SFits w64 b → eqb (of_z w64 a) (of_z w64 b) ≡ same_word a b
@@ -39,36 +37,26 @@ same_test a b f g = go (eqb (of_z w64 a) (of_z w64 b)) (same_word a b) refl refl
 pub tested : (a b : ℤ) {x y : Bool} → mag a < 2 ^ 63 → x ≡ same_word (to_z w64 (of_z w64 a)) b → x ≡ y → same_word a b ≡ y
 tested a b h d e = sym (d ∙ ap (λ z. same_word z b) (back-ok a h)) ∙ e
 
+-- seven words are written, one at a time
+pub seven-written : (ws : List ℤ) → length ws ≡ 7 → (a b c d e f g : ℤ)
+    → set (set (set (set (set (set (set ws 0 a) 1 b) 2 c) 3 d) 4 e) 5 f) 6 g ≡ a ∷ b ∷ c ∷ d ∷ e ∷ f ∷ g ∷ []
+seven-written ws size a b c d e f g =
+    ap (λ (x : List ℤ). set (set (set (set (set (set (set x 0 a) 1 b) 2 c) 3 d) 4 e) 5 f) 6 g) (words-all 7 ws size)
+
 -- ════════════════════════════════════════════════════════════════════════════════════════════
 -- Consulting, by how it goes
 -- ════════════════════════════════════════════════════════════════════════════════════════════
 
--- a fault, by the outcome of the handler
-pub handling-is : (f : Five) (x y : Result) → x ≡ y → (o : Outcome) → x.outcome ≡ o
-    → handling f (record { outcome = o; row = x.row; steps = x.steps }) ≡ handling f y
-handling-is f x y d o e = ap (λ o. handling f (record { outcome = o; row = x.row; steps = x.steps })) (sym e) ∙ ap (handling f) d
-
-module _ (handler : List ℤ → Result) (f : Five) (rows : List (List ℤ)) (turn i : ℕ) (finds : Finds f rows i) where
-  -- a row rules as the first one that matches
-  pub consult-hit : i < length rows → consulted_by (hit_by (get_or rows i empty_row) turn) rows ≡ consult handler f (cache rows turn)
+module _ (handler : List ℤ → Result) (f : Five) (ws : List ℤ) where
+  pub consult-hit : matches f ws ≡ true → ruling true ws 0 0 ≡ consult handler f ws
   unfolding consult
-  consult-hit h =
-      let (ws, first, same) = finds.found h in
-      rw first
-      (ap (λ (v : Verdict). record { verdict = v; cache = cache rows turn; faults = 0; kernel_steps = 0 }) (sym same))
+  consult-hit e = ap (λ (b : Bool). consult_if b handler f ws) (sym e)
 
-  -- none does
-  pub consult-fault : length rows ≤ i → faulted f (cache rows turn) (handler (missed f)) ≡ consult handler f (cache rows turn)
+  -- what a fault comes to, by the outcome of the handler
+  abbrev pub fault : Result → Outcome → Consulted
+  fault x o = faulted f (record { outcome = o; row = x.row; steps = x.steps })
+
+  pub consult-fault : matches f ws ≡ false → (x : Result) → x ≡ handler (missed f) → (o : Outcome) → x.outcome ≡ o
+      → fault x o ≡ consult handler f ws
   unfolding consult
-  consult-fault far = rw (finds.nowhere far)
-
--- ════════════════════════════════════════════════════════════════════════════════════════════
--- The turn
--- ════════════════════════════════════════════════════════════════════════════════════════════
-
-module _ (count turn : ℕ) where
-  pub turn_on : turn + 1 < count → turn + 1 ≡ next_turn count turn
-  turn_on h = rw (lt-ltb (suc turn) count (omega arith)) (add-one turn)
-
-  pub turn-round : count ≤ turn + 1 → 0 ≡ next_turn count turn
-  turn-round h = rw (le-ltb (suc turn) count (omega arith))
+  consult-fault e x d o k = ap (fault x) (sym k) ∙ ap (faulted f) d ∙ ap (λ (b : Bool). consult_if b handler f ws) (sym e)

@@ -1,13 +1,10 @@
 -- What is found of the rules before a run, by the check of the table.
 -- Assumes nothing.
 use mathlib.Core.Path.{◌≡◌, refl, sym, ap, ◌∙◌}
-use mathlib.Core.Bool.{Bool, false}
 use mathlib.Core.List.{List}
 use Prim.Native.Nat.{ℕ, ◌/◌}
 use lib.IntN.{ℤ}
 use lib.Dec.{leb}
-use borrow.Author.Tests.{eq-eqb, ne_eqb}
-use Rattle.word.specs.Choose.{choose}
 use lib.ListN.{length}
 use Rattle.word.proofs.Bool.{never}
 use Rattle.program.specs.declared.Refusal.{Refusal}
@@ -20,12 +17,12 @@ use Rattle.policy.specs.Read.{ReadTable, refused, table, read_table}
 use Rattle.tables.specs.declared.Checked.TheVariants as Checked
 use Rattle.tables.specs.declared.row.Inspected.{Inspected}
 use Rattle.tables.specs.Ask.{check_answer}
-use Rattle.tables.specs.Rows.{inspected}
+use Rattle.tables.specs.RowCode.{inspected}
 use Rattle.handler.specs.Translate.{handler_of}
 use Rattle.translator.specs.Emit.{table_code}
 use Rattle.translator.proofs.Translating.{accepted-handler, refused-handler}
 use Rattle.tagged.specs.declared.start.Found.{Found}
-use Rattle.tagged.specs.Start.{rules_limit, rows_by, rows_limit, handler_limit, found_of}
+use Rattle.tagged.specs.Start.{rules_limit, row_limit, handler_limit, found_of}
 
 -- check 6
 rules-kept : (q : ReadTable) → check_answer q ≡ Checked.Accepted → Kept ≡ rules_limit q
@@ -36,21 +33,10 @@ rules-broken : (q : ReadTable) (r : Refusal) → check_answer q ≡ Checked.Refu
 rules-broken (refused p) r e = cc
 rules-broken (table t) r e = never (cc)
 
--- check 7, by how many rows were given
-module _ (wanted count first : ℕ) where
-  abbrev by : Bool → Limit
-  by b = choose b (kept_if (leb wanted first) (refusal 7 first)) (Broken (refusal 7 wanted))
-
-  pub rows-counted : count ≡ wanted → kept_if (leb wanted first) (refusal 7 first) ≡ rows_by wanted count first
-  rows-counted e = ap by (sym (eq-eqb count wanted e))
-
-  pub rows-miscounted : (count ≡ wanted → ⊥) → kept_if false (refusal 7 wanted) ≡ rows_by wanted count first
-  rows-miscounted e = ap by (sym (ne_eqb count wanted e))
-
 abbrev found : Limit → Limit → Limit → ℕ → Found
 found rules row handler size = record { own = record { rules = rules; row = row; handler = handler }; size = size }
 
-module _ (bytes : List ℕ) (rows : List (List ℤ)) (i : Inspected) (is : i ≡ inspected (read_table bytes) rows) where
+module _ (bytes : List ℕ) (ws : List ℤ) (i : Inspected) (is : i ≡ inspected (read_table bytes) ws) where
   abbrev rules : ReadTable
   rules = read_table bytes
 
@@ -67,10 +53,10 @@ module _ (bytes : List ℕ) (rows : List (List ℤ)) (i : Inspected) (is : i ≡
   pub sized-refused : (r : Refusal) → i.table ≡ Checked.Refused r → Sized (Broken r) 0
   sized-refused r e = (rules-broken rules r (answer ∙ e), rw (refused-handler rules r (answer ∙ e)))
 
-  pub found-is : (wanted count words : ℕ) (limit row handler : Limit) (size : ℕ) → Sized limit size → row ≡ rows_by wanted count i.refused
-      → handler ≡ kept_if (leb size (words / 2)) (refusal 8 3) → found limit row handler size ≡ found_of wanted count rules rows words
-  found-is wanted count words limit row handler size (l, s) k h =
-      let row_is : row ≡ rows_limit wanted count rules rows = k ∙ ap (λ (x : Inspected). rows_by wanted count x.refused) is in
+  pub found-is : (words : ℕ) (limit row handler : Limit) (size : ℕ) → Sized limit size → row ≡ kept_if i.row (refusal 7 0)
+      → handler ≡ kept_if (leb size (words / 2)) (refusal 8 3) → found limit row handler size ≡ found_of rules ws words
+  found-is words limit row handler size (l, s) k h =
+      let row_is : row ≡ row_limit rules ws = k ∙ ap (λ (x : Inspected). kept_if x.row (refusal 7 0)) is in
       let half = ap (λ n. leb n (words / 2)) s ∙ leb-half (length (handler_of rules)) words in
       let handler-is : handler ≡ handler_limit rules words = h ∙ ap (λ b. kept_if b (refusal 8 3)) half in
       rw (row_is, handler-is, s, l)

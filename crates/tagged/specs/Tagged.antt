@@ -1,6 +1,6 @@
--- A tag engine: what it answers and what every lent run and the rule memory hold at exit, for all arguments; and what it promises of the
--- table that it is given. It is said for any number of rows; document 01's engine has one.
-use Rattle.std.specs.Prelude.{ℕ, ◌≡◌, List, [], ◌∷◌, ℤ, length}
+-- The tag engine: what it answers and what every lent run and the rule memory hold at exit, for all arguments; and what it promises of
+-- the table that it is given.
+use Rattle.std.specs.Prelude.{ℕ, ◌≡◌, List, ℤ, length}
 use Rattle.word.specs.Lay.{laid}
 use Rattle.program.specs.Decode.{Decoded, refused, accepted}
 use Rattle.engine.specs.declared.Clearances.{Clearances}
@@ -14,8 +14,7 @@ use Rattle.policy.specs.Read.{ReadTable, read_table}
 use Rattle.handler.specs.Space.{kernel_words}
 use Rattle.handler.specs.Translate.{handler_of}
 use Rattle.handler.specs.Claim.{Handles}
-use Rattle.tagging.specs.Consult.{cache, Tag, tag, tag_ruler}
-use Rattle.tagged.specs.declared.Answered.{Answered}
+use Rattle.tagging.specs.Consult.{Tag, tag, tag_ruler}
 use Rattle.tagged.specs.declared.Tagged.{Tagged}
 use Rattle.tagged.specs.Start.{own_of}
 
@@ -27,16 +26,13 @@ pub record Left : Type 0 where
 abbrev pub left : Ended Tag → List ℤ → Left
 left e handler = record { ended = e; handler = handler }
 
--- what the code hands back, with the rows and the lent runs; and for one row
-abbrev pub answered_by : Answered → List (List ℤ) → Memory → Ended Tag
-answered_by r rows m = ended r.answer (tag (cache rows r.turn) r.faults r.kernel) m
-
+-- what the code hands back, with the lent runs
 abbrev pub ended_by : Tagged → Memory → Ended Tag
-ended_by r m = ended r.answer (tag (cache (r.cache.words ∷ []) 0) r.faults r.kernel) m
+ended_by r m = ended r.answer (tag r.cache.words r.faults r.kernel) m
 
--- a run starts with the rows as they were given, row 0's turn, no faults and no kernel steps
-abbrev pub tag_of : List (List ℤ) → Tag
-tag_of rows = tag (cache rows 0) 0 0
+-- a run starts with the rule memory as it was given, no faults and no kernel steps
+abbrev pub tag_of : List ℤ → Tag
+tag_of row = tag row 0 0
 
 -- the handler is laid in its space where the start is accepted
 abbrev pub handler_after : Decoded → ReadTable → List ℤ → List ℤ
@@ -44,24 +40,18 @@ handler_after (refused r) rules space = space
 handler_after (accepted cs) rules space = laid (kernel_words (handler_of rules)) space
 
 -- what the start comes to
-abbrev pub start_tagged : (wanted count : ℕ) → List ℕ → ReadTable → List (List ℤ) → Clearances → Memory → List ℤ → ℕ → Decoded
-start_tagged wanted count sheet rules rows c m handler fuel =
-    start_of sheet m.lent.cells.labels c (given m fuel) (own_of wanted count rules rows (length handler))
+abbrev pub start_tagged : List ℕ → ReadTable → List ℤ → Clearances → Memory → List ℤ → ℕ → Decoded
+start_tagged sheet rules row c m handler fuel =
+    start_of sheet m.lent.cells.labels c (given m fuel) (own_of rules row (length handler))
 
-abbrev pub tagged_of : Decoded → ReadTable → List (List ℤ) → Clearances → Memory → List ℤ → ℕ → Left
-tagged_of d rules rows c m handler fuel =
-    left (engine_of (tag_ruler (handler_of rules)) d (tag_of rows) c m fuel) (handler_after d rules handler)
+abbrev pub tagged_of : Decoded → ReadTable → List ℤ → Clearances → Memory → List ℤ → ℕ → Left
+tagged_of d rules row c m handler fuel =
+    left (engine_of (tag_ruler (handler_of rules)) d (tag_of row) c m fuel) (handler_after d rules handler)
 
--- with a rule memory of `wanted` rows: of how many rows were given, the sheet, the table's bytes, the rows, the clearances, the lent runs,
--- the handler space and the allowance
-unfoldable pub tag_engine : (wanted count : ℕ) → List ℕ → List ℕ → List (List ℤ) → Clearances → Memory → List ℤ → ℕ → Left
-tag_engine wanted count sheet bytes rows c m handler fuel =
-    let rules : ReadTable = read_table bytes in
-    tagged_of (start_tagged wanted count sheet rules rows c m handler fuel) rules rows c m handler fuel
-
--- document 01's has one
-abbrev pub tagged : List ℕ → List ℕ → List ℤ → Clearances → Memory → List ℤ → ℕ → Left
-tagged sheet bytes row = tag_engine 1 1 sheet bytes (row ∷ [])
+-- of the sheet, the table's bytes, the rule memory, the clearances, the lent runs, the handler space and the allowance
+unfoldable pub tagged : List ℕ → List ℕ → List ℤ → Clearances → Memory → List ℤ → ℕ → Left
+tagged sheet bytes row c m handler fuel =
+    let rules : ReadTable = read_table bytes in tagged_of (start_tagged sheet rules row c m handler fuel) rules row c m handler fuel
 
 -- what is promised where the bytes are a table: its handler is as asked (Sound of the handler crate), and after a run it lies in its space;
 -- and demand 2, answer and lent runs are those of reading the table directly

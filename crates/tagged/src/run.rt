@@ -1,27 +1,27 @@
 // One loop over the commands. Read engine/specs/Loop.antt first.
-ghost use Rattle.std.specs.Prelude.{◌≡◌, ◌*◌, ◌<◌, ◌≤◌, length};
+ghost use Rattle.std.specs.Prelude.{◌≡◌, ◌≤◌};
 ghost use Rattle.stack.specs.Words.{started};
 ghost use Rattle.step.specs.Lent.{cells, lent, after};
 ghost use Rattle.engine.specs.Memory.{output, environment};
 ghost use Rattle.engine.specs.Act.{acted, act_of};
 ghost use Rattle.engine.specs.Loop.{ran, done, loop_of};
 ghost use Rattle.handler.specs.Space.{handle_space};
-ghost use Rattle.tagging.specs.Consult.{cache, tag};
-ghost use Rattle.tagged.specs.Ruling.{tag_words, Agreeing};
+ghost use Rattle.tagging.specs.Consult.{tag};
+ghost use Rattle.tagged.specs.Ruling.{tag_words};
 
 use crate::consult::{consult, five_words};
 use engine::Ran;
+use policy::row::Cache;
 use stack::{CARRIED, Machine, Stepped};
 use step::effect::effect;
 use step::find::find;
 use word::number::Index;
 
-// A command that was carried out or stopped, and what the ruler keeps: whose turn it is, and a fault and its kernel steps more, or none;
-// with the row that ruling.
+// A command that was carried out or stopped, and what the ruler keeps: the rule memory, and a fault and its kernel steps more, or none.
 #[derive(Drop)]
 struct Acted {
     stepped: Stepped,
-    turn: usize,
+    cache: Cache,
     faults: u64,
     kernel: u64,
 }
@@ -30,7 +30,7 @@ struct Acted {
 #[derive(Drop)]
 pub(crate) struct Left {
     pub ran: Ran,
-    pub turn: usize,
+    pub cache: Cache,
     pub faults: u64,
     pub kernel: u64,
 }
@@ -42,18 +42,14 @@ fn act(
     word: i64,
     operand: i64,
     m: Machine,
-    rows: &mut [[i64; 7]],
-    turn: usize,
-    guesses: &mut [u8; 4096],
-    j: usize,
+    cache: Cache,
     stack: &mut [i64],
     values: &mut [i64],
     labels: &mut [i64],
 ) -> Acted
-    requires { Agreeing rows.old × (j < 4096) }
     ensures { acted (after result.stepped (lent stack.new (cells values.new labels.new)))
-        (tag (cache rows.new result.turn) result.faults result.kernel)
-        ≡ act_of (tag_words (handle_space space.now size)) word operand m (tag (cache rows.old turn) 0 0)
+        (tag result.cache.words result.faults result.kernel)
+        ≡ act_of (tag_words (handle_space space.now size)) word operand m (tag cache.words 0 0)
         (lent stack.old (cells values.old labels.old)) }
 {
     let code = word::wrap::to_bits(word);
@@ -63,21 +59,13 @@ fn act(
     if stop != CARRIED {
         return Acted {
             stepped: stack::stopped(m, stop),
-            turn,
+            cache,
             faults: 0,
             kernel: 0,
         };
     }
-    let ruling = consult(
-        space,
-        size,
-        five_words(word, place, found),
-        rows,
-        turn,
-        guesses,
-        j,
-    );
-    let next = ruling.turn;
+    let ruling = consult(space, size, five_words(word, place, found), cache);
+    let row = ruling.cache;
     let faults = ruling.faults;
     let kernel = ruling.steps;
     if ruling.allowed {
@@ -93,21 +81,21 @@ fn act(
         );
         return Acted {
             stepped,
-            turn: next,
+            cache: row,
             faults,
             kernel,
         };
     }
     Acted {
         stepped: stack::stopped(m, 6),
-        turn: next,
+        cache: row,
         faults,
         kernel,
     }
 }
 
-fn ended(machine: Machine, stop: u64, steps: u64, turn: usize, faults: u64, kernel: u64) -> Left
-    ensures { result ≡ record { ran = ran machine stop steps; turn = turn; faults = faults; kernel = kernel } }
+fn ended(machine: Machine, stop: u64, steps: u64, cache: Cache, faults: u64, kernel: u64) -> Left
+    ensures { result ≡ record { ran = ran machine stop steps; cache = cache; faults = faults; kernel = kernel } }
 {
     let ran = Ran {
         machine,
@@ -116,15 +104,13 @@ fn ended(machine: Machine, stop: u64, steps: u64, turn: usize, faults: u64, kern
     };
     Left {
         ran,
-        turn,
+        cache,
         faults,
         kernel,
     }
 }
 
 // Runs a loaded program of `count` commands from the start, for at most `fuel` steps, with the handler of `size` instructions in `space`.
-// Which row ruled on the command at a place is remembered: most likely it will again. That there are at most 4,096 commands is tested once
-// more, here where the compiler sees it.
 pub(crate) fn go(
     count: usize,
     room: usize,
@@ -133,7 +119,7 @@ pub(crate) fn go(
     program: &[i64],
     space: &[i64],
     size: usize,
-    rows: &mut [[i64; 7]],
+    memory: Cache,
     stack: &mut [i64],
     values: &mut [i64],
     labels: &mut [i64],
@@ -142,44 +128,27 @@ pub(crate) fn go(
     kinds: &mut [i64],
     pages: &mut [i64],
 ) -> Left
-    requires { (count ≤ 4096) × (size ≤ 8192) × (fuel ≤ 1000000) × Agreeing rows.old × (2 * count ≤ length program.now) }
-    ensures { done result.ran (tag (cache rows.new result.turn) result.faults result.kernel)
+    requires { (count ≤ 4096) × (size ≤ 8192) × (fuel ≤ 1000000) }
+    ensures { done result.ran (tag result.cache.words result.faults result.kernel)
         (lent stack.new (cells values.new labels.new))
         (output numbers.new line_labels.new kinds.new pages.new)
         ≡ loop_of (tag_words (handle_space space.now size)) count (environment room clearances.now) program.now fuel 0 started
-        (tag (cache rows.old 0) 0 0)
+        (tag memory.words 0 0)
         (lent stack.old (cells values.old labels.old))
         (output numbers.old line_labels.old kinds.old pages.old) }
 {
     let mut m = Machine::start();
-    let mut guesses: [u8; 4096] = [0; 4096];
-    let mut turn: usize = 0;
+    let mut cache = memory;
     let mut steps: u64 = 0;
     let mut faults: u64 = 0;
     let mut kernel: u64 = 0;
-    if 4096 < count {
-        return ended(m, 1, steps, turn, faults, kernel);
-    }
     while steps < fuel {
         let place = m.pc.index(count);
         match place {
             Index::At(i) => {
-                let word = program[2 * i];
-                let operand = program[2 * i + 1];
-                let r = act(
-                    space,
-                    size,
-                    word,
-                    operand,
-                    m,
-                    rows,
-                    turn,
-                    &mut guesses,
-                    i,
-                    stack,
-                    values,
-                    labels,
-                );
+                let word = word::memory::at(program, 2 * i);
+                let operand = word::memory::at(program, 2 * i + 1);
+                let r = act(space, size, word, operand, m, cache, stack, values, labels);
                 let stepped = r.stepped;
                 let w = engine::emit(
                     m,
@@ -192,12 +161,12 @@ pub(crate) fn go(
                     pages,
                 );
                 m = w.machine;
-                turn = r.turn;
+                cache = r.cache;
                 faults += r.faults;
                 kernel += r.kernel;
                 let stop = w.stop;
                 if stop != CARRIED {
-                    return ended(m, stop, steps, turn, faults, kernel);
+                    return ended(m, stop, steps, cache, faults, kernel);
                 }
                 steps += 1;
             }
@@ -214,7 +183,7 @@ pub(crate) fn go(
                     pages,
                 );
                 let machine = w.machine;
-                return ended(machine, w.stop, steps, turn, faults, kernel);
+                return ended(machine, w.stop, steps, cache, faults, kernel);
             }
         }
     }
@@ -230,5 +199,5 @@ pub(crate) fn go(
         pages,
     );
     let machine = w.machine;
-    ended(machine, w.stop, steps, turn, faults, kernel)
+    ended(machine, w.stop, steps, cache, faults, kernel)
 }

@@ -1,12 +1,11 @@
--- The counts of a run of a tag engine, whatever the handler and the rule memory are.
+-- The counts of a run of the tag engine, whatever the handler and the rule memory are.
 -- Assumes nothing.
 use mathlib.Core.Path.{◌≡◌, refl}
+use mathlib.Core.Bool.{Bool, true, false}
 use mathlib.Core.List.{List}
-use mathlib.Core.Option.{Option, none, some}
 use Prim.Native.Nat.{ℕ, suc, ◌+◌, ◌*◌, ◌≤◌}
 use native.Mathlib.Nat.{add-mul}
 use native.Mathlib.Omega.{arith}
-use lib.IntN.{ℤ}
 use lib.ListN.{length}
 use Rattle.program.specs.declared.Command.{Command}
 use Rattle.machine.specs.Rule.{rules}
@@ -18,7 +17,7 @@ use Rattle.machine.proofs.Execute.{Sound, execute-sound}
 use Rattle.machine.proofs.Step.{Gives, gives-stepped, step_both, run-induction}
 use Rattle.handler.specs.Kernel.{Instruction, handle}
 use Rattle.handler.proofs.Effect.{handle-steps}
-use Rattle.tagging.specs.Consult.{Five, five_of, missed, first_match, Tag, consult_found, consult, counted, tag_ruler}
+use Rattle.tagging.specs.Consult.{Tag, Five, five_of, matches, missed, consult_if, consult, counted, tag_ruler}
 use Rattle.tagging.specs.Claim.{Adds}
 
 -- what one command adds: at most one fault, with its kernel steps
@@ -32,13 +31,13 @@ module _ (handler : List Instruction) where
   grows_none : (u : Tag) → Grows (length handler) u u
   grows_none u = record { more = 0; one = omega arith; faults = omega arith; kernel_steps = omega arith }
 
-  consult-grows : (u : Tag) (f : Five) → Grows (length handler) u (counted u (consult (handle handler) f u.cache))
+  consult-grows : (u : Tag) (f : Five) → Grows (length handler) u (counted u (consult (handle handler) f u.row))
   unfolding consult
-  consult-grows u f = go (first_match f u.cache.rows)
+  consult-grows u f = go (matches f u.row)
     where
-      go : (x : Option (List ℤ)) → Grows (length handler) u (counted u (consult_found (handle handler) f u.cache x))
-      go (some ws) = record { more = 0; one = omega arith; faults = refl; kernel_steps = omega arith }
-      go none =
+      go : (b : Bool) → Grows (length handler) u (counted u (consult_if b (handle handler) f u.row))
+      go true = record { more = 0; one = omega arith; faults = refl; kernel_steps = omega arith }
+      go false =
           let h = handle-steps handler (missed f) in record { more = 1; one = omega arith; faults = refl; kernel_steps = omega arith }
 
   request-grows : (c : Command) (s : State) (u : Tag) (q : Request) → Grows (length handler) u (asked_by (tag_ruler handler) c s u q)

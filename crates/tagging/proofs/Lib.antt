@@ -2,5 +2,3 @@ pub mod Ruled
 pub mod Rules
 pub mod Faults
 pub mod Refines
-pub mod Turn
-pub mod Keys

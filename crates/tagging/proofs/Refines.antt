@@ -1,4 +1,4 @@
--- Demand 2: a run of a tag engine with the handler of a rule table is the machine's run under that table, however many rows it has.
+-- Demand 2: a run of the tag engine with the handler of a rule table is the machine's run under that table.
 -- Assumes nothing.
 use mathlib.Core.Path.{◌≡◌, refl, subst, ap, ◌∙◌, fun_ext}
 use mathlib.Core.List.{List}
@@ -27,11 +27,11 @@ use Rattle.policy.specs.Standard.{standard_table, standard_bytes}
 use Rattle.policy.proofs.Standard.{evaluate-standard, standard-read}
 use Rattle.policy.proofs.Writable.{read-writable}
 use Rattle.handler.specs.Translate.{translate}
+use Rattle.handler.specs.Claim.{row_of}
 use Rattle.tagging.specs.Consult.{Tag, tag_ruler}
-use Rattle.tagging.specs.Claim.{AllFit, Leaves, Claim}
+use Rattle.tagging.specs.Claim.{Fits, Leaves, Claim}
 use Rattle.tagging.proofs.Ruled.{rules-range}
-use Rattle.tagging.proofs.Rules.{consult-table, consult-left}
-use Rattle.tagging.proofs.Rules as Asked
+use Rattle.tagging.proofs.Rules.{row_fits, consult-table}
 use Rattle.tagging.proofs.Faults.{tag-counts}
 
 module _ (t : Table) (well : TableWritable t) (env : Environment) (cs : List Command) where
@@ -39,16 +39,16 @@ module _ (t : Table) (well : TableWritable t) (env : Environment) (cs : List Com
   ρ = tag_ruler (translate t)
 
   -- ══════════════════════════════════════════════════════════════════════════════════════════
-  -- One step, from labels in range and accepted rows
+  -- One step, from labels in range and an accepted row
   -- ══════════════════════════════════════════════════════════════════════════════════════════
 
   abbrev Ready : State → Tag → Type 0
-  Ready s u = LabelsInRange s × AllFit t u.cache
+  Ready s u = LabelsInRange s × Fits t u.row
 
   module _ (s : State) (u : Tag) (ready : Ready s u) where
     rules-alike : (c : Command) (q : Request) → Asks c s q → AnswersAlike (rules ρ u) (evaluate t) env s c q
     rules-alike c (halt x) a = tt
-    rules-alike c (ask l1 l2 l3 k) a = (consult-table t (key_of c s l1 l2 l3) a.0 well u.cache ready.1).verdict
+    rules-alike c (ask l1 l2 l3 k) a = (consult-table t (key_of c s l1 l2 l3) a.0 well u.row ready.1).verdict
 
     -- the rule memory rules on it as the table does
     step-rules : step (rules ρ u) env cs s ≡ step (evaluate t) env cs s
@@ -58,17 +58,17 @@ module _ (t : Table) (well : TableWritable t) (env : Environment) (cs : List Com
 
     -- what it leaves in the rule memory
     abbrev Left : Outcome → Tag → Type 0
-    Left (stopped x) w = Leaves t env cs x s w.cache
-    Left (stepped v) w = AllFit t w.cache
+    Left (stopped x) w = Leaves t env cs x s w.row
+    Left (stepped v) w = Fits t w.row
 
-    outcome-left : (o : Outcome) (w : Tag) → Roomy o → AllFit t w.cache → Left o w
+    outcome-left : (o : Outcome) (w : Tag) → Roomy o → Fits t w.row → Left o w
     outcome-left (stopped x) w e h = rw e h
     outcome-left (stepped v) w e h = h
 
     request-left : (c : Command) → CommandAt cs s.pc.number c → (q : Request) → request env c s ≡ q → Asks c s q
         → Left (consult (evaluate t) c s q) (asked_by ρ c s u q)
     request-left c at (halt x) e a = rw a ready.1
-    request-left c at (ask l1 l2 l3 k) e (m, roomy) = go (evaluate t key) refl (consult-left t key m well u.cache ready.1)
+    request-left c at (ask l1 l2 l3 k) e (m, roomy) = go (evaluate t key) refl
       where
         key : Key
         key = key_of c s l1 l2 l3
@@ -76,9 +76,14 @@ module _ (t : Table) (well : TableWritable t) (env : Environment) (cs : List Com
         w : Tag
         w = (ρ u key).ruler
 
-        go : (v : Verdict) → evaluate t key ≡ v → Asked.Left t key m well u.cache ready.1 v → Left (decide v k) w
-        go denied d is = (c, at, rw e (d, (u.cache, ready.1, is)))
-        go (allowed p r) d h = outcome-left (k p r) w (roomy p r) h
+        row : w.row ≡ row_of key (evaluate t key)
+        row = (consult-table t key m well u.row ready.1).row
+
+        go : (v : Verdict) → evaluate t key ≡ v → Left (decide v k) w
+        go denied d = (c, at, rw e (d, row ∙ ap (row_of key) d))
+        go (allowed p r) d =
+            let is : w.row ≡ row_of key (allowed p r) = row ∙ ap (row_of key) d in
+            outcome-left (k p r) w (roomy p r) (rw is (row_fits t key m p r d))
 
     step_left : Left (step (rules ρ u) env cs s) (asked ρ env cs s u)
     unfolding execute
@@ -106,9 +111,9 @@ module _ (t : Table) (well : TableWritable t) (env : Environment) (cs : List Com
 
   -- the rule memory at the stop
   run-leaves : (fuel : ℕ) (s : State) (u : Tag) → Ready s u
-      → let r : Result Tag = run ρ env cs fuel s u in Leaves t env cs r.stop r.state r.ruler.cache
+      → let r : Result Tag = run ρ env cs fuel s u in Leaves t env cs r.stop r.state r.ruler.row
   run-leaves =
-      run-induction ρ env cs (λ fuel s u r. Ready s u → Leaves t env cs r.stop r.state r.ruler.cache)
+      run-induction ρ env cs (λ fuel s u r. Ready s u → Leaves t env cs r.stop r.state r.ruler.row)
       (λ fuel s u e f ready. ready.1)
       (λ fuel s u x e f ready. rw (barred-other env _ _ (barrier-held env (length s.lines) _ f) 6 (omega arith)) ready.1)
       (λ s u e ready. ready.1)
@@ -125,7 +130,7 @@ tag-agrees t well env cs fuel s u range fits =
     record {
       machine = run-alike _ _ env cs _ same fuel s u tt (range, fits);
       stack = λ space. along-alike _ _ env cs _ same stack_laid fuel s u tt space (range, fits);
-      cache = run-leaves t well env cs fuel s u (range, fits);
+      row = run-leaves t well env cs fuel s u (range, fits);
       counts = tag-counts (translate t) env cs fuel s u;
     }
 

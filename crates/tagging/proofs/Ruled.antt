@@ -17,7 +17,7 @@ use Rattle.policy.specs.Expression.{LabelExpr, empty, place, input1, input2, inp
 use Rattle.policy.specs.Evaluate.{eval_label, eval_condition, eval_rule, rule_of, evaluate}
 use Rattle.handler.specs.Kernel.{Instruction, Outcome, returned, failed, Result, handle}
 use Rattle.handler.specs.Kernel as Kernel
-use Rattle.tagging.specs.Consult.{Five, five_of, matches, missed, Cache, first_match, Tag, ruled_if, again, consult_found, consult, tag_ruler}
+use Rattle.tagging.specs.Consult.{Tag, Five, five_of, matches, missed, ruled_if, again, consult_if, consult, tag_ruler}
 
 abbrev Ranged : Verdict → Type 0
 Ranged denied = Unit
@@ -69,14 +69,14 @@ again-range f returned ws = ruled-range (matches f ws) ws
 again-range f Kernel.denied ws = tt
 again-range f failed ws = tt
 
-consult-range : (handler : List ℤ → Result) (f : Five) (c : Cache) → Ranged (consult handler f c).verdict
+consult-range : (handler : List ℤ → Result) (f : Five) (ws : List ℤ) → Ranged (consult handler f ws).verdict
 unfolding consult
-consult-range handler f c = go (first_match f c.rows)
+consult-range handler f ws = go (matches f ws)
   where
-    go : (x : Option (List ℤ)) → Ranged (consult_found handler f c x).verdict
-    go (some ws) = ruled-range true ws
-    go none = again-range f (handler (missed f)).outcome (handler (missed f)).row
+    go : (b : Bool) → Ranged (consult_if b handler f ws).verdict
+    go true = ruled-range true ws
+    go false = again-range f (handler (missed f)).outcome (handler (missed f)).row
 
 -- of every handler, with any rule memory
 pub rules-range : (handler : List Instruction) (u : Tag) → Answers InRange (rules (tag_ruler handler) u)
-rules-range handler u k p r has e = rw e at (consult-range (handle handler) (five_of k) u.cache)
+rules-range handler u k p r has e = rw e at (consult-range (handle handler) (five_of k) u.row)

@@ -1,8 +1,5 @@
--- The rule memory in front of the handler: how a command is ruled on. Document 01's tag engine has one row, request U7's has 64; it is said
--- for any number of them.
-use Rattle.std.specs.Prelude.{ℕ, suc, ◌+◌, Bool, true, false, ◌&&◌, List, [], ◌∷◌, ℤ, pos, negsuc, length, set, ltb}
-use Rattle.std.proofs.Math.Option.{Option, none, some}
-use Rattle.word.specs.Choose.{choose}
+-- The rule memory in front of the handler: how a command is ruled on, as document 01's tag engine has it.
+use Rattle.std.specs.Prelude.{ℕ, ◌+◌, Bool, true, false, ◌&&◌, List, [], ◌∷◌, ℤ, pos, negsuc}
 use Rattle.word.specs.Number.{same_word}
 use Rattle.label.specs.Word.{low_label}
 use Rattle.program.specs.Command.{code_of}
@@ -10,6 +7,15 @@ use Rattle.machine.specs.Rule.{Key, input_word, Verdict, denied, allowed, Ruler}
 use Rattle.policy.specs.Row.{word}
 use Rattle.handler.specs.Kernel.{Instruction, Outcome, returned, failed, Result, handle}
 use Rattle.handler.specs.Kernel as Kernel
+
+-- what the tag engine has beside the machine's state: the rule memory, the commands that did not match, the kernel steps
+pub record Tag : Type 0 where
+  pub row : List ℤ
+  pub faults : ℕ
+  pub kernel_steps : ℕ
+
+abbrev pub tag : List ℤ → ℕ → ℕ → Tag
+tag row faults kernel_steps = record { row = row; faults = faults; kernel_steps = kernel_steps }
 
 -- a command about to run, as the five words: code, P, L1, L2, L3; missing inputs are −1
 pub record Five : Type 0 where
@@ -25,7 +31,7 @@ words code pc input1 input2 input3 = record { code = code; pc = pc; input1 = inp
 abbrev pub five_of : Key → Five
 five_of k = words (pos (code_of k.opcode)) (pos k.pc) (input_word k.input1) (input_word k.input2) (input_word k.input3)
 
--- the first five words of a row match
+-- the first five words of the rule memory match
 unfoldable pub matches : Five → List ℤ → Bool
 matches f ws =
     same_word f.code (word ws 0)
@@ -40,52 +46,10 @@ missed f = f.code ∷ f.pc ∷ f.input1 ∷ f.input2 ∷ f.input3 ∷ negsuc 0 �
 abbrev pub ruled : List ℤ → Verdict
 ruled ws = allowed (low_label (word ws 5)) (low_label (word ws 6))
 
--- ════════════════════════════════════════════════════════════════════════════════════════════
--- The rule memory
--- ════════════════════════════════════════════════════════════════════════════════════════════
-
--- its rows, and the one whose turn it is
-pub record Cache : Type 0 where
-  pub rows : List (List ℤ)
-  pub turn : ℕ
-
-abbrev pub cache : List (List ℤ) → ℕ → Cache
-cache rows turn = record { rows = rows; turn = turn }
-
-abbrev pub row_if : Bool → List ℤ → Option (List ℤ) → Option (List ℤ)
-row_if true ws other = some ws
-row_if false ws other = other
-
--- the rows are searched from row 0, and the first match is used
-unfoldable pub first_match : Five → List (List ℤ) → Option (List ℤ)
-first_match f [] = none
-first_match f (ws ∷ rows) = row_if (matches f ws) ws (first_match f rows)
-
--- from 0 to the last of so many, and round
-abbrev pub next_turn : (count : ℕ) → ℕ → ℕ
-next_turn count turn = choose (ltb (suc turn) count) (suc turn) 0
-
--- a fault overwrites the row whose turn it is, and moves the turn on
-abbrev pub filled : List ℤ → Cache → Cache
-filled row c = cache (set c.rows c.turn row) (next_turn (length c.rows) c.turn)
-
--- what the tag engine has beside the machine's state: the rule memory, the commands that did not match, the kernel steps
-pub record Tag : Type 0 where
-  pub cache : Cache
-  pub faults : ℕ
-  pub kernel_steps : ℕ
-
-abbrev pub tag : Cache → ℕ → ℕ → Tag
-tag c faults kernel_steps = record { cache = c; faults = faults; kernel_steps = kernel_steps }
-
--- ════════════════════════════════════════════════════════════════════════════════════════════
--- Consulting
--- ════════════════════════════════════════════════════════════════════════════════════════════
-
 -- what consulting the rule memory gives: the verdict, the rule memory after it, a fault or none, and the handler's kernel steps
 pub record Consulted : Type 0 where
   pub verdict : Verdict
-  pub cache : Cache
+  pub row : List ℤ
   pub faults : ℕ
   pub kernel_steps : ℕ
 
@@ -100,24 +64,23 @@ again f returned ws = ruled_if (matches f ws) ws
 again f Kernel.denied ws = denied
 again f failed ws = denied
 
--- the handler works on the row whose turn it was
-abbrev pub faulted : Five → Cache → Result → Consulted
-faulted f c x = record { verdict = again f x.outcome x.row; cache = filled x.row c; faults = 1; kernel_steps = x.steps }
+abbrev pub faulted : Five → Result → Consulted
+faulted f x = record { verdict = again f x.outcome x.row; row = x.row; faults = 1; kernel_steps = x.steps }
 
-abbrev pub consult_found : (List ℤ → Result) → Five → Cache → Option (List ℤ) → Consulted
-consult_found handler f c (some ws) = record { verdict = ruled ws; cache = c; faults = 0; kernel_steps = 0 }
-consult_found handler f c none = faulted f c (handler (missed f))
+abbrev pub consult_if : Bool → (List ℤ → Result) → Five → List ℤ → Consulted
+consult_if true handler f ws = record { verdict = ruled ws; row = ws; faults = 0; kernel_steps = 0 }
+consult_if false handler f ws = faulted f (handler (missed f))
 
--- where the first five words of a row match, its last two are used; otherwise the handler runs
-unfoldable pub consult : (handler : List ℤ → Result) → Five → Cache → Consulted
-consult handler f c = consult_found handler f c (first_match f c.rows)
+-- where the first five words match, the last two are used; otherwise the handler runs
+unfoldable pub consult : (handler : List ℤ → Result) → Five → List ℤ → Consulted
+consult handler f ws = consult_if (matches f ws) handler f ws
 
 -- the counts go on
 abbrev pub counted : Tag → Consulted → Tag
-counted t c = tag c.cache (t.faults + c.faults) (t.kernel_steps + c.kernel_steps)
+counted t c = tag c.row (t.faults + c.faults) (t.kernel_steps + c.kernel_steps)
 
--- a tag engine's ruler, with a handler: it keeps the rule memory and the counts
+-- the tag engine's ruler, with a handler: it keeps the rule memory and the counts
 abbrev pub tag_ruler : List Instruction → Ruler Tag
 tag_ruler handler u k =
-    let c : Consulted = consult (handle handler) (five_of k) u.cache in
+    let c : Consulted = consult (handle handler) (five_of k) u.row in
     record { verdict = c.verdict; ruler = counted u c }

@@ -1,3 +1,2 @@
 pub mod Consult
 pub mod Claim
-pub mod Keys

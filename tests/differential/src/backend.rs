@@ -4,7 +4,6 @@
 pub mod faults;
 pub mod faulty;
 
-use model::engine::rows::{by_rows, ByRows};
 use model::engine::{plain, tagged, Lent, Report};
 use model::machine::whole;
 use model::page::page;
@@ -69,37 +68,12 @@ impl From<Result<Report, Refusal>> for Answer {
     }
 }
 
-/// An answer of the engine of 64 rows, with the row whose turn it is.
-#[derive(Clone, Copy, Debug, PartialEq, Eq)]
-pub struct RowsAnswer {
-    pub run: Answer,
-    pub turn: u64,
-}
-
-impl From<ByRows> for RowsAnswer {
-    fn from(by_rows: ByRows) -> RowsAnswer {
-        RowsAnswer { run: by_rows.answer.into(), turn: by_rows.turn as u64 }
-    }
-}
-
 /// The longest page: 1,024 lines, the end line included, of at most 33 bytes.
 pub const PAGE_LIMIT: usize = 33_792;
 
 pub trait Backend {
     fn plain(&self, sheet: &[u8], lent: &mut Lent, clearances: &[i64], fuel: u64) -> Answer;
     fn tagged(&self, sheet: &[u8], table: &[u8], lent: &mut Lent, clearances: &[i64], fuel: u64) -> Answer;
-    /// The engine of 64 rows, which are lent in the place of the one row; none where only the others are to be tried.
-    fn rows(
-        &self,
-        _sheet: &[u8],
-        _table: &[u8],
-        _lent: &mut Lent,
-        _clearances: &[i64],
-        _fuel: u64,
-    ) -> Option<RowsAnswer> {
-        None
-    }
-
     /// Kernel commands of the table's handler; 0 where the bytes are no table.
     fn handler_count(&self, table: &[u8]) -> u64;
     /// Status and length of the job's page, which is written to the buffer.
@@ -133,17 +107,6 @@ impl Backend for Itself {
 
     fn tagged(&self, sheet: &[u8], table: &[u8], lent: &mut Lent, clearances: &[i64], fuel: u64) -> Answer {
         tagged(sheet, table, sample(table).handler(), lent, clearances, fuel).answer.into()
-    }
-
-    fn rows(
-        &self,
-        sheet: &[u8],
-        table: &[u8],
-        lent: &mut Lent,
-        clearances: &[i64],
-        fuel: u64,
-    ) -> Option<RowsAnswer> {
-        Some(by_rows(sheet, table, sample(table).handler(), lent, clearances, fuel).into())
     }
 
     fn handler_count(&self, table: &[u8]) -> u64 {

@@ -1,11 +1,10 @@
 //! Holds an engine to the model: every word of the answer and every lent word, also of refused starts.
 
-use crate::backend::{Answer, Backend, RowsAnswer, PAGE_LIMIT};
+use crate::backend::{Answer, Backend, PAGE_LIMIT};
 use crate::generate::{job, start, Start};
 use crate::random::Random;
 use crate::shrink::shrink;
 use crate::tally::Tally;
-use model::engine::rows::{by_rows, by_rows_noted, Asked, WORDS};
 use model::engine::{judged, plain, tagged, tagged_noted, Handler, Lent, ALLOWANCE, CLEARED_FOR_ALL};
 use model::machine::{whole, Entry, Judge, Stack};
 use model::page::{page, read};
@@ -95,32 +94,20 @@ fn compare_plain(backend: &dyn Backend, start: &Start, tally: &mut Tally) -> Res
     same("plain", (engine, &by_engine), (model, &by_model))
 }
 
-/// How many commands the engine's handler of a table has, which are none where it is no table.
-fn handler_count(backend: &dyn Backend, table: &[u8]) -> Result<usize, String> {
-    let count = backend.handler_count(table) as usize;
-    let is_table = Table::read(table).is_ok();
+fn compare_tagged(backend: &dyn Backend, start: &Start, tally: &mut Tally) -> Result<(), String> {
+    let count = backend.handler_count(&start.table) as usize;
+    let table = Table::read(&start.table);
+    let is_table = table.is_ok();
     if is_table != (1..=model::kernel::COMMANDS).contains(&count) {
         return Err(format!("handler count {count}, table: {is_table}"));
     }
-    Ok(count)
-}
-
-/// The handler is the engine's own: the model takes its words from where the engine left them.
-fn handler_left(by_engine: &Lent, count: usize) -> Handler<'_> {
-    Handler { count, words: &by_engine.handler[..(2 * count).min(by_engine.handler.len())] }
-}
-
-/// What a tag engine came to and left, which is what the model did.
-type Outcome = (Answer, Lent);
-
-fn compare_tagged(backend: &dyn Backend, start: &Start, tally: &mut Tally) -> Result<Outcome, String> {
-    let count = handler_count(backend, &start.table)?;
-    let table = Table::read(&start.table);
     let Start { sheet, clearances, fuel, .. } = start;
     let mut by_engine = start.lent.clone();
     let engine = backend.tagged(sheet, &start.table, &mut by_engine, clearances, *fuel);
     let mut by_model = start.lent.clone();
-    let handler = handler_left(&by_engine, count);
+    // The handler is the engine's own: the model takes its words from where the engine left them.
+    let words = &by_engine.handler[..(2 * count).min(by_engine.handler.len())];
+    let handler = Handler { count, words };
     let mut matched = false;
     let note = |memory: &RuleMemory, question: &Question| {
         tally.consulted(memory, question);
@@ -137,8 +124,7 @@ fn compare_tagged(backend: &dyn Backend, start: &Start, tally: &mut Tally) -> Re
         tagged(sheet, &start.table, handler, lent, &CLEARED_FOR_ALL, fuel).answer
     });
     tally.tagged.clearances.note(&answer, start, &by_model, later);
-    let row = &by_model.rule_memory;
-    tally.tagged.clearances.note_tagged(&answer, start, row, table.as_ref().ok(), later, matched);
+    tally.tagged.clearances.note_tagged(&answer, start, &by_model, table.as_ref().ok(), later, matched);
     tally.tagged.calls.note_tagged(&answer, start, &by_model, table.as_ref().ok());
     if answer.words[0] == 0 {
         if let (Ok(table), true) = (&table, start.table != STANDARD) {
@@ -152,66 +138,7 @@ fn compare_tagged(backend: &dyn Backend, start: &Start, tally: &mut Tally) -> Re
     if let (6, Err((fault, _))) = (answer.words[0], table) {
         tally.table_fault(fault);
     }
-    same("tagged", (engine, &by_engine), (answer, &by_model))?;
-    Ok((answer, by_model))
-}
-
-/// Holds the engine of 64 rows to the model, and its run to that of one row, where neither is refused; nothing where
-/// there is no such engine.
-fn compare_rows(
-    backend: &dyn Backend,
-    start: &Start,
-    one_row: &Outcome,
-    tally: &mut Tally,
-) -> Result<(), String> {
-    let count = handler_count(backend, &start.table)?;
-    let Start { sheet, table, clearances, fuel, .. } = start;
-    let came = start.lent.with_rule_memory(&start.filling);
-    let mut by_engine = came.clone();
-    let Some(engine) = backend.rows(sheet, table, &mut by_engine, clearances, *fuel) else {
-        return Ok(());
-    };
-    let mut by_model = came.clone();
-    let handler = handler_left(&by_engine, count);
-    let mut noted = tally.filling.run();
-    let note = |asked: Asked| noted.asked(&asked);
-    let model = by_rows_noted(sheet, table, handler, &mut by_model, clearances, *fuel, note);
-    if let (0, Some(wrong)) = (engine.run.words[0], &model.wrong) {
-        return Err(format!("rows: handler: {wrong:?}"));
-    }
-    let (used, matched) = (noted.used, noted.matched);
-    let model = RowsAnswer::from(model);
-    let answer = model.run;
-    let table = Table::read(table).ok();
-    tally.rows.note(&answer, start, &by_model);
-    let later = |words: &[i64], clearances: &[i64]| {
-        // No step is needed to know.
-        let fuel = if *fuel > ALLOWANCE { *fuel } else { 0 };
-        let mut lent = came.with_rule_memory(words);
-        let run = by_rows(sheet, &start.table, handler, &mut lent, clearances, fuel);
-        run.answer.err().map_or(0, |refusal| refusal.number)
-    };
-    let after_13 = if answer.words[0] == 13 { later(&start.filling, &CLEARED_FOR_ALL) } else { 0 };
-    tally.rows.clearances.note(&answer, start, &by_model, after_13);
-    let row = used.and_then(|used| by_model.rule_memory.get(7 * used..7 * used + 7)).unwrap_or_default();
-    tally.rows.clearances.note_tagged(&answer, start, row, table.as_ref(), after_13, matched);
-    tally.rows.calls.note_tagged(&answer, start, &by_model, table.as_ref());
-    let after_7 = if answer.words[0] == 7 { later(&[0; WORDS], clearances) } else { 0 };
-    tally.filling.note(&model, start, &by_model.rule_memory, table.as_ref(), after_7);
-    if engine.turn != model.turn {
-        return Err(format!("rows: the turn is {}, of the model {}", engine.turn, model.turn));
-    }
-    same("rows", (engine.run, &by_engine), (answer, &by_model))?;
-    if answer.words[0] == 0 && one_row.0.words[0] == 0 {
-        // Faults and kernel steps are each engine's own, and so is what the rule memory holds.
-        let [mut many, mut one] = [answer, one_row.0];
-        many.words[8..].fill(0);
-        one.words[8..].fill(0);
-        let by_rows = by_model.with_rule_memory(&one_row.1.rule_memory);
-        same("64 rows and one", (many, &by_rows), (one, &one_row.1))?;
-        tally.both_accepted += 1;
-    }
-    Ok(())
+    same("tagged", (engine, &by_engine), (answer, &by_model))
 }
 
 fn compare_page(backend: &dyn Backend, random: &mut Random, tally: &mut Tally) -> Result<(), String> {
@@ -281,8 +208,7 @@ pub fn compare_case(backend: &dyn Backend, seed: u64, case: u64, tally: &mut Tal
 
 fn compare_start(backend: &dyn Backend, start: &Start, tally: &mut Tally) -> Result<(), String> {
     compare_plain(backend, start, tally)?;
-    let one_row = compare_tagged(backend, start, tally)?;
-    compare_rows(backend, start, &one_row, tally)
+    compare_tagged(backend, start, tally)
 }
 
 /// A start in words that a person can follow.
@@ -293,17 +219,14 @@ pub fn describe(start: &Start) -> String {
     };
     let lent = &start.lent;
     let cells = lent.values.len().min(12);
-    let rows = start.filling.chunks(7).enumerate().filter(|(_, row)| row.iter().any(|&word| word != 0));
     format!(
-        "  sheet {sheet}\n  table {:02x?}\n  values {:?}\n  labels {:?}\n  clearances {:x?}\n  rule memory {:?}\n  of {} words \
-         these rows: {:?}\n  lengths: cells {} {} program {} stack {} handler {} output {} {} {} {}\n  fuel {}",
+        "  sheet {sheet}\n  table {:02x?}\n  values {:?}\n  labels {:?}\n  clearances {:x?}\n  rule memory {:?}\n  lengths: \
+         cells {} {} program {} stack {} handler {} output {} {} {} {}\n  fuel {}",
         start.table,
         &lent.values[..cells],
         &lent.labels[..cells.min(lent.labels.len())],
         start.clearances,
         lent.rule_memory,
-        start.filling.len(),
-        rows.collect::<Vec<_>>(),
         lent.values.len(),
         lent.labels.len(),
         lent.program.len(),

@@ -1,6 +1,6 @@
 //! The proved engines, through the wrapper.
 
-use crate::backend::{Answer, Backend, RowsAnswer};
+use crate::backend::{Answer, Backend};
 use crate::text::{Texts, Written};
 use luvrodan::sys::{RawResult, RawWritten};
 use luvrodan::{Refusal, Tags};
@@ -53,22 +53,6 @@ impl Backend for Engine {
     fn tagged(&self, sheet: &[u8], table: &[u8], lent: &mut Lent, clearances: &[i64], fuel: u64) -> Answer {
         let (lent, rule_memory, handler) = lend(lent);
         answer(luvrodan::tagged_raw(sheet, lent, Tags { table, rule_memory, handler }, clearances, fuel))
-    }
-
-    fn rows(
-        &self,
-        sheet: &[u8],
-        table: &[u8],
-        lent: &mut Lent,
-        clearances: &[i64],
-        fuel: u64,
-    ) -> Option<RowsAnswer> {
-        let (lent, rule_memory, handler) = lend(lent);
-        let raw = luvrodan::rows_raw(sheet, lent, Tags { table, rule_memory, handler }, clearances, fuel);
-        if let Ok(report) = raw.named() {
-            assert_eq!((raw.run.named(), raw.turn), (Ok(report.run), report.turn as u64));
-        }
-        Some(RowsAnswer { run: answer(raw.run), turn: raw.turn })
     }
 
     fn handler_count(&self, table: &[u8]) -> u64 {

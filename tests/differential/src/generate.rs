@@ -3,8 +3,6 @@
 
 mod calls;
 pub mod clearances;
-mod keys;
-pub mod rows;
 
 use self::clearances::owner;
 use crate::random::Random;
@@ -16,14 +14,12 @@ use model::rules::{
 use model::sheet::{decode, encode, inputs_of, Command, Command::*, COMMANDS, PAGES};
 use model::{Atom, Label};
 
-/// A start of any engine.
+/// A start of either engine.
 #[derive(Clone, Debug)]
 pub struct Start {
     pub sheet: Vec<u8>,
     pub table: Vec<u8>,
     pub lent: Lent,
-    /// The words of the 64 rows, which the engine that has them is lent for its rule memory.
-    pub filling: Vec<i64>,
     pub clearances: Vec<i64>,
     pub fuel: u64,
 }
@@ -53,12 +49,11 @@ pub fn number(random: &mut Random) -> i64 {
 }
 
 pub fn cells(random: &mut Random) -> Vec<Atom> {
-    let count = match random.weighted(&[3, 87, 6, 1, 3]) {
+    let count = match random.weighted(&[3, 90, 6, 1]) {
         0 => 0,
         1 => random.between(1, 8),
         2 => random.between(9, 60),
-        3 => random.between(1020, 1024),
-        _ => return keys::many_labels(random),
+        _ => random.between(1020, 1024),
     };
     let mut cell = || {
         let number = if random.percent(45) { random.below(count) as i64 } else { number(random) };
@@ -435,13 +430,6 @@ pub fn commands(random: &mut Random, cells: usize) -> Vec<Command> {
             if builder.random.percent(3) {
                 builder.cell_at_brink();
             }
-            if keys::COUNTS.contains(&cells) {
-                match builder.random.weighted(&[20, 60, 20]) {
-                    0 => {}
-                    1 => builder.many_keys(),
-                    _ => builder.keys_and_denial(),
-                }
-            }
             for _ in 0..snippets {
                 builder.snippet(3);
             }
@@ -735,31 +723,6 @@ pub fn table(random: &mut Random) -> Vec<u8> {
     }
 }
 
-/// A question, in many cases of this command.
-fn question(random: &mut Random, first: Option<Command>) -> Question {
-    let code = match first {
-        Some(command) if random.percent(60) => command.code(),
-        _ if random.percent(30) => random.pick(&[0x04, 0x0c, 0x0a, 0x0d, 0x0e]),
-        _ => random.between(1, 14) as u8,
-    };
-    let place = if random.percent(60) { 0 } else { label(random) };
-    let mut question = Question { code, place, inputs: [None; 3] };
-    for input in question.inputs.iter_mut().take(inputs_of(code)) {
-        *input = Some(label(random));
-    }
-    question
-}
-
-/// The code of a command with as many inputs as that of this code, or of none.
-fn other_code(random: &mut Random, code: u8) -> i64 {
-    let others = match inputs_of(code) {
-        1 => &[4, 12, 10, 13, 15][..],
-        2 => &[1, 6, 14, 15],
-        _ => &[15],
-    };
-    random.pick(others)
-}
-
 /// Seven words: empty, an allowed row of the table, one that is not, or what is no row at all.
 pub fn rule_memory(random: &mut Random, table: &[u8], first: Option<Command>) -> Vec<i64> {
     let kind = random.weighted(&[60, 30, 6, 3, 1]);
@@ -770,7 +733,16 @@ pub fn rule_memory(random: &mut Random, table: &[u8], first: Option<Command>) ->
         let length = random.pick(&[0, 6, 8]);
         return vec![0; length];
     }
-    let question = question(random, first);
+    let code = match first {
+        Some(command) if random.percent(60) => command.code(),
+        _ if random.percent(30) => random.pick(&[0x04, 0x0c, 0x0a, 0x0d, 0x0e]),
+        _ => random.between(1, 14) as u8,
+    };
+    let place = if random.percent(60) { 0 } else { label(random) };
+    let mut question = Question { code, place, inputs: [None; 3] };
+    for input in question.inputs.iter_mut().take(inputs_of(code)) {
+        *input = Some(label(random));
+    }
     let mut words = question.words().to_vec();
     match Table::parse(table).ok().and_then(|table| table.answer(&question)) {
         Some(labels) => words.extend([i64::from(labels.place), i64::from(labels.result)]),
@@ -786,8 +758,15 @@ pub fn rule_memory(random: &mut Random, table: &[u8], first: Option<Command>) ->
                 _ => number(random),
             };
         }
-        // The same labels after another code.
-        1 if random.percent(10) => words[0] = other_code(random, question.code),
+        // The same labels after another code: that of a command with as many inputs, or that of none.
+        1 if random.percent(10) => {
+            let others = match inputs_of(code) {
+                1 => &[4, 12, 10, 13, 15][..],
+                2 => &[1, 6, 14, 15],
+                _ => &[15],
+            };
+            words[0] = random.pick(others);
+        }
         3 => words[5..].fill(-1),
         _ => {}
     }
@@ -952,13 +931,12 @@ pub fn start(random: &mut Random, handler_count: impl Fn(&[u8]) -> u64) -> Start
         kinds,
         pages,
     };
-    let mut start = Start { sheet, table, lent, filling: Vec::new(), clearances, fuel: fuel(random) };
+    let mut start = Start { sheet, table, lent, clearances, fuel: fuel(random) };
     match random.weighted(&[20, 15, 65]) {
         0 => fit(random, &mut start),
         1 => close(random, &mut start),
         _ => {}
     }
-    start.filling = rows::of_start(random, &start);
     start
 }
 

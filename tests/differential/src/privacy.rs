@@ -1,4 +1,4 @@
-//! Looks for a counterexample to demand 3: two runs of one sheet, each on any engine and with clearances of its own,
+//! Looks for a counterexample to demand 3: two runs of one sheet, each on either engine and with clearances of its own,
 //! from cells that are alike for a set of owners, whose views for that set are not one the start of the other; and so
 //! for the lines of each page. And for an end line that misleads: a view that has one must be whole, with the other view
 //! as its start. And for a page that tells what it is closed to: a line that is not cleared for its page, or a page
@@ -9,7 +9,7 @@ mod pairs;
 pub use self::pairs::Pairs;
 use crate::backend::{page_from, Backend};
 use crate::generate::clearances::clearances;
-use crate::generate::{cells, commands, fuel, label, number, rows, rule_memory};
+use crate::generate::{cells, commands, fuel, label, number, rule_memory};
 use crate::random::Random;
 use model::engine::{judged, Lent, ALLOWANCE};
 use model::machine::{Clearances, Kind, Stop};
@@ -56,14 +56,6 @@ fn other_clearances(random: &mut Random, clearances: &Clearances, cells: &[Atom]
 /// Page, kind, number and label.
 type Words = [i64; 4];
 
-/// Which engine a run is on.
-#[derive(Clone, Copy, PartialEq, Eq)]
-enum Engine {
-    Plain,
-    Tagged,
-    Rows,
-}
-
 struct Run {
     lines: Vec<Words>,
     /// The lines inside the set.
@@ -75,9 +67,7 @@ struct Run {
     uncleared: Option<(u8, bool)>,
     /// The place's label is inside the set.
     cleared: bool,
-    engine: Engine,
-    /// Faults of the engine of 64 rows, 0 of the others.
-    row_faults: u64,
+    on_plain: bool,
     /// Values that were returned from a place outside the set to a frame inside it.
     hidden_returns: u64,
 }
@@ -130,7 +120,8 @@ fn run(
     set: Label,
 ) -> Run {
     let room = random.pick(&[0, 1, 3, 20, 60, 200]);
-    let mut lent = Lent::sized(cells, room, sheet.len(), backend.handler_count(&STANDARD) as usize);
+    let mut lent = Lent::roomy(cells, room);
+    lent.program.truncate(2 * sheet.len());
     let fuel = match fuel(random) {
         accepted @ 0..=ALLOWANCE => accepted,
         beyond => beyond % 1000,
@@ -138,25 +129,19 @@ fn run(
     let bytes = encode(sheet);
     let words = clearances.map(i64::from);
     let hidden_returns = hidden_returns(&bytes, &lent, &words, fuel, set);
-    let table = Table::parse(&STANDARD).expect("the standard table is a table");
-    let engine = random.pick(&[Engine::Plain, Engine::Tagged, Engine::Rows]);
-    let answer = match engine {
-        Engine::Plain => backend.plain(&bytes, &mut lent, &words, fuel),
-        Engine::Tagged => {
-            let memory = rule_memory(random, &STANDARD, sheet.first().copied());
-            if table.accepts(&memory) {
-                lent.rule_memory = memory;
-            }
-            backend.tagged(&bytes, &STANDARD, &mut lent, &words, fuel)
+    let on_plain = random.percent(50);
+    let answer = if on_plain {
+        backend.plain(&bytes, &mut lent, &words, fuel)
+    } else {
+        let memory = rule_memory(random, &STANDARD, sheet.first().copied());
+        let table = Table::parse(&STANDARD).expect("the standard table is a table");
+        if table.accepts(&memory) {
+            lent.rule_memory = memory;
         }
-        Engine::Rows => {
-            let asked = rows::asked(&bytes, &table, &lent, &words, fuel);
-            lent.rule_memory = rows::accepted(random, &table, &asked).concat();
-            let answer = backend.rows(&bytes, &STANDARD, &mut lent, &words, fuel);
-            answer.expect("there is an engine of 64 rows").run
-        }
+        lent.handler.truncate(2 * backend.handler_count(&STANDARD) as usize);
+        backend.tagged(&bytes, &STANDARD, &mut lent, &words, fuel)
     };
-    let [refusal, _, stop, steps, pc, place_label, _, lines, faults, _] = answer.words;
+    let [refusal, _, stop, steps, pc, place_label, _, lines, _, _] = answer.words;
     assert_eq!(refusal, 0, "the start breaks no limit");
     let lines: Vec<Words> = (0..lines as usize)
         .map(|index| [lent.pages[index], lent.kinds[index], lent.numbers[index], lent.line_labels[index]])
@@ -172,8 +157,7 @@ fn run(
         steps,
         uncleared,
         cleared: flows(place_label as Label, set),
-        engine,
-        row_faults: if engine == Engine::Rows { faults } else { 0 },
+        on_plain,
         hidden_returns,
     }
 }

@@ -2,11 +2,9 @@
 
 pub mod calls;
 pub mod clearances;
-pub mod rows;
 
 use self::calls::{Calls, Carried};
 use self::clearances::Clearances;
-use self::rows::Filling;
 use crate::backend::{fits, Answer};
 use crate::generate::Start;
 use model::engine::Lent;
@@ -68,8 +66,8 @@ const OVERFLOWS: [&str; 7] = [
 /// Sums that are a limit.
 const LIMITS: [&str; 4] = ["Add to 2^63-1", "Add to -2^63", "Sub to 2^63-1", "Sub to -2^63"];
 
-/// What may be met in the rule memory of one row, where the labels are those of the command that asks.
-const ONE_ROW: [&str; 7] = [
+/// What may be met in the rule memory, where the labels are those of the command that asks.
+const ROWS: [&str; 7] = [
     "a row of OutputTo matched",
     "OutputTo at a row of Output",
     "Output at a row of OutputTo",
@@ -80,7 +78,7 @@ const ONE_ROW: [&str; 7] = [
 ];
 
 /// The codes of the row and of the command that asks, for each of them.
-const ROW_CODES: [[i64; 2]; ONE_ROW.len()] =
+const ROW_CODES: [[i64; 2]; ROWS.len()] =
     [[12, 12], [4, 12], [12, 4], [13, 13], [10, 13], [13, 10], [14, 14]];
 
 /// Rule memories at a start; the last is refused for its code alone.
@@ -215,11 +213,6 @@ fn refused_at_output_to(sheet: &[u8], refusal: u64, place: usize) -> [bool; OUTP
 pub struct Tally {
     pub plain: Engine,
     pub tagged: Engine,
-    /// The engine of 64 rows, and what was met of these.
-    pub rows: Engine,
-    pub filling: Filling,
-    /// Runs on 64 rows that were held to those on one row.
-    pub both_accepted: u64,
     /// Commands that were judged on the plain engine, by code.
     pub commands: [u64; 15],
     /// The same at a place whose label is not empty.
@@ -230,7 +223,7 @@ pub struct Tally {
     /// OutputTos that were carried out on the plain engine, by page.
     pub output_to: [u64; PAGES as usize],
     /// Matches of a row; a command that finds the row of its labels of the other command under its rule.
-    pub one_row: [u64; ONE_ROW.len()],
+    pub rows: [u64; ROWS.len()],
     pub starts: [u64; STARTS.len()],
     /// Sums that are a limit, on the plain engine.
     pub limits: [u64; LIMITS.len()],
@@ -287,12 +280,12 @@ impl Tally {
         }
     }
 
-    /// What the rule memory of one row held and what it was asked.
+    /// What the rule memory held and what it was asked.
     pub fn consulted(&mut self, memory: &RuleMemory, question: &Question) {
         let words = question.words();
         if memory[1..5] == words[1..] {
             let met = ROW_CODES.map(|codes| codes == [memory[0], words[0]]);
-            for (count, met) in self.one_row.iter_mut().zip(met) {
+            for (count, met) in self.rows.iter_mut().zip(met) {
                 *count += u64::from(met);
             }
         }
@@ -324,10 +317,6 @@ impl Tally {
         self.job_faults[fault as usize] += 1;
     }
 
-    fn engines(&self) -> [(&'static str, &Engine); 3] {
-        [("plain", &self.plain), ("tagged", &self.tagged), ("rows", &self.rows)]
-    }
-
     /// What was not reached though it should be.
     pub fn missing(&self) -> Vec<String> {
         let mut missing = Vec::new();
@@ -336,11 +325,11 @@ impl Tally {
                 missing.push(name);
             }
         };
-        for (name, engine) in self.engines() {
+        for (name, engine) in [("plain", &self.plain), ("tagged", &self.tagged)] {
             for (stop, &count) in engine.stops.iter().enumerate() {
                 want(format!("{name}: stop {stop}"), count);
             }
-            let rules = name != "plain";
+            let rules = name == "tagged";
             for number in REFUSALS.into_iter().filter(|number| rules || ![6, 7].contains(number)) {
                 want(format!("{name}: refusal {number}"), engine.refusals[number]);
             }
@@ -351,17 +340,11 @@ impl Tally {
                 want(format!("{name}: {what}"), count);
             }
         }
-        for (name, engine) in &self.engines()[1..] {
-            want(format!("{name}: stop 6 at a sum outside 64 bits"), engine.denied_overflows);
-            want(format!("{name}: stop 6 at an OutputTo"), engine.denied_output_to);
-            for (what, count) in engine.tagged_details() {
-                want(format!("{name}: {what}"), count);
-            }
+        want("tagged: stop 6 at a sum outside 64 bits".into(), self.tagged.denied_overflows);
+        want("tagged: stop 6 at an OutputTo".into(), self.tagged.denied_output_to);
+        for (what, count) in self.tagged.tagged_details() {
+            want(format!("tagged: {what}"), count);
         }
-        for (what, count) in self.filling.details() {
-            want(format!("rows: {what}"), count);
-        }
-        want("runs on 64 rows and on one".into(), self.both_accepted);
         for (what, count) in self.carried.returns() {
             want(what.into(), count);
         }
@@ -372,13 +355,13 @@ impl Tally {
         }
         for page in 0..PAGES.into() {
             want(format!("OutputTo {page}"), self.output_to[page]);
-            for (name, engine) in self.engines() {
-                want(format!("{name}: a line on page {page}"), engine.pages[page]);
+            want(format!("tagged: a line on page {page}"), self.tagged.pages[page]);
+            for (name, engine) in [("plain", &self.plain), ("tagged", &self.tagged)] {
                 want(format!("{name}: stop 10 on page {page}"), engine.clearances.pages[page]);
             }
         }
         want("OutputTo of a hidden number at a hidden place".into(), self.hidden_output_to);
-        for (what, &count) in ONE_ROW.iter().zip(&self.one_row).chain(STARTS.iter().zip(&self.starts)) {
+        for (what, &count) in ROWS.iter().zip(&self.rows).chain(STARTS.iter().zip(&self.starts)) {
             want((*what).into(), count);
         }
         for (what, &count) in LIMITS.iter().zip(&self.limits) {
@@ -409,42 +392,33 @@ impl Tally {
     }
 
     pub fn print(&self) {
-        println!("{:>26} {:>12} {:>12} {:>12}", "", "plain", "tagged", "rows");
-        let engines = self.engines().map(|(_, engine)| engine);
-        let row = |name: &str, count: &dyn Fn(&Engine) -> u64| {
-            let [plain, tagged, rows] = engines.map(count);
-            println!("{name:>26} {plain:>12} {tagged:>12} {rows:>12}");
-        };
+        println!("{:>26} {:>12} {:>12}", "", "plain", "tagged");
+        let row = |name: String, plain: u64, tagged: u64| println!("{name:>26} {plain:>12} {tagged:>12}");
         for stop in 0..self.plain.stops.len() {
-            row(&format!("stop {stop}"), &|engine| engine.stops[stop]);
+            row(format!("stop {stop}"), self.plain.stops[stop], self.tagged.stops[stop]);
         }
-        let details = engines.map(|engine| engine.details().collect::<Vec<_>>());
-        let tagged_details = engines.map(|engine| engine.tagged_details().collect::<Vec<_>>());
-        for [plain, tagged, rows] in [details, tagged_details] {
-            for ((&(what, plain), (_, tagged)), (_, rows)) in plain.iter().zip(tagged).zip(rows) {
-                println!("{what:>26} {plain:>12} {tagged:>12} {rows:>12}");
-            }
+        for ((what, plain), (_, tagged)) in self.plain.details().zip(self.tagged.details()) {
+            row(what.into(), plain, tagged);
         }
-        row("stop 6 before 9", &|engine| engine.denied_overflows);
-        row("stop 6, OutputTo", &|engine| engine.denied_output_to);
+        row("stop 6 before 9".into(), self.plain.denied_overflows, self.tagged.denied_overflows);
+        row("stop 6, OutputTo".into(), self.plain.denied_output_to, self.tagged.denied_output_to);
+        for ((what, plain), (_, tagged)) in self.plain.tagged_details().zip(self.tagged.tagged_details()) {
+            row(what.into(), plain, tagged);
+        }
         for number in REFUSALS {
-            row(&format!("refusal {number}"), &|engine| engine.refusals[number]);
+            row(format!("refusal {number}"), self.plain.refusals[number], self.tagged.refusals[number]);
         }
         for place in 1..4 {
-            row(&format!("refusal 8 at {place}"), &|engine| engine.spaces[place]);
+            row(format!("refusal 8 at {place}"), self.plain.spaces[place], self.tagged.spaces[place]);
         }
-        row("steps", &|engine| engine.steps);
-        row("longest run", &|engine| engine.longest);
-        row("lines", &|engine| engine.lines);
-        row("faults", &|engine| engine.faults);
-        row("kernel steps", &|engine| engine.kernel_steps);
-        for (what, count) in self.filling.details() {
-            println!("{what:>32} {count:>12}");
-        }
-        println!("{:>32} {:>12}", "runs on 64 rows and on one", self.both_accepted);
+        row("steps".into(), self.plain.steps, self.tagged.steps);
+        row("longest run".into(), self.plain.longest, self.tagged.longest);
+        row("lines".into(), self.plain.lines, self.tagged.lines);
+        row("faults".into(), self.plain.faults, self.tagged.faults);
+        row("kernel steps".into(), self.plain.kernel_steps, self.tagged.kernel_steps);
         println!("{:>26} {:>12} {:>12}", "command", "asked", "hidden place");
         for code in 0x01..=0x0e {
-            println!("{:>26} {:>12} {:>12}", format!("{code:02x}"), self.commands[code], self.hidden[code]);
+            row(format!("{code:02x}"), self.commands[code], self.hidden[code]);
         }
         println!(
             "OutputTo carried out, by page: {:?}; hidden number and place: {}",
@@ -454,10 +428,10 @@ impl Tally {
         for (what, count) in self.carried.returns() {
             println!("{what}: {count}");
         }
-        let closed = engines.map(|engine| engine.clearances.pages);
-        println!("stop 10, by page: plain {:?}, tagged {:?}, rows {:?}", closed[0], closed[1], closed[2]);
+        let closed = [&self.plain, &self.tagged].map(|engine| engine.clearances.pages);
+        println!("stop 10, by page: plain {:?}, tagged {:?}", closed[0], closed[1]);
         print!("rule memory:");
-        for (what, count) in ONE_ROW.iter().zip(&self.one_row).chain(STARTS.iter().zip(&self.starts)) {
+        for (what, count) in ROWS.iter().zip(&self.rows).chain(STARTS.iter().zip(&self.starts)) {
             print!(" {what}: {count}");
         }
         println!();

@@ -2,7 +2,7 @@
 
 use differential::backend::faults::{of_calls, of_clearances, Fault, FAULTS};
 use differential::backend::faulty::Faulty;
-use differential::backend::{Answer, Backend, Itself, RowsAnswer};
+use differential::backend::{Answer, Backend, Itself};
 use differential::compare::compare_case;
 use differential::privacy::{privacy_case, Pairs};
 use differential::tally::Tally;
@@ -63,65 +63,17 @@ impl Backend for InTags {
     }
 }
 
-/// A fault in the engine of 64 rows alone.
-struct InRows(Faulty);
-
-impl Backend for InRows {
-    fn plain(&self, sheet: &[u8], lent: &mut Lent, clearances: &[i64], fuel: u64) -> Answer {
-        Itself.plain(sheet, lent, clearances, fuel)
-    }
-
-    fn tagged(&self, sheet: &[u8], table: &[u8], lent: &mut Lent, clearances: &[i64], fuel: u64) -> Answer {
-        Itself.tagged(sheet, table, lent, clearances, fuel)
-    }
-
-    fn rows(
-        &self,
-        sheet: &[u8],
-        table: &[u8],
-        lent: &mut Lent,
-        clearances: &[i64],
-        fuel: u64,
-    ) -> Option<RowsAnswer> {
-        self.0.rows(sheet, table, lent, clearances, fuel)
-    }
-
-    fn handler_count(&self, table: &[u8]) -> u64 {
-        Itself.handler_count(table)
-    }
-
-    fn page(&self, job: &[u8], buffer: &mut [u8]) -> (u64, u64) {
-        Itself.page(job, buffer)
-    }
-}
-
-/// Faults that either engine may have, and those of one row that 64 may have too.
-fn shared() -> impl Iterator<Item = Fault> {
-    let of_one_row = [
-        Fault::DeniedRowAccepted,
-        Fault::FaultTooMany,
-        Fault::OutputToDenied,
-        Fault::OutputToAsOutput,
-        Fault::OutputRowTaken,
-        Fault::OutputToRowTaken,
-        Fault::OutputToRowRefused,
-        Fault::NextRowAccepted,
-        Fault::OverflowUnasked,
-    ];
-    of_one_row.into_iter().chain(of_clearances().iter().chain(of_calls()).copied())
-}
-
 #[test]
-fn every_fault_is_found_in_the_tag_engine() {
-    for fault in shared() {
+fn every_fault_of_clearances_is_found_in_the_tag_engine() {
+    for &fault in of_clearances() {
         find_case(fault, &InTags(Faulty(fault)), 10_000);
     }
 }
 
 #[test]
-fn every_fault_is_found_in_the_engine_of_64_rows() {
-    for fault in shared() {
-        find_case(fault, &InRows(Faulty(fault)), 10_000);
+fn every_fault_of_calls_is_found_in_the_tag_engine() {
+    for &fault in of_calls() {
+        find_case(fault, &InTags(Faulty(fault)), 10_000);
     }
 }
 
@@ -149,9 +101,6 @@ fn every_leak_is_found() {
         Fault::RetVOnNone,
         Fault::RetVWithoutPlace,
         Fault::RetVUnderRet,
-        // 64 rows: labels that another place has, or another command.
-        Fault::RowOfOtherPlace,
-        Fault::LabelsOfRowZero,
     ] {
         find_pair(fault, " differ");
     }

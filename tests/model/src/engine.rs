@@ -1,8 +1,6 @@
-//! The engines over lent words: what is refused, what is run, what the words hold afterwards (document 01, "Tag
+//! The two engines over lent words: what is refused, what is run, what the words hold afterwards (document 01, "Tag
 //! engine", "Refused before the first step"; document 02, U1 and U4, for the third and fourth run of the output space,
-//! U5, for the clearances, and U6, for the kinds of frames). [`rows`] has the engine of 64 rows (U7).
-
-pub mod rows;
+//! U5, for the clearances, and U6, for the kinds of frames).
 
 use crate::kernel::{self, Breach, Ending};
 use crate::machine::{Clearances, Judge, Kind, Line, Machine, Stop, STACK};
@@ -36,28 +34,18 @@ impl Lent {
     /// Memory that suffices for any run: these cells, an empty rule memory, room for so many lines, the end line among
     /// them, zeros.
     pub fn roomy(cells: &[Atom], lines: usize) -> Lent {
-        Lent::sized(cells, lines, crate::sheet::COMMANDS, kernel::COMMANDS)
-    }
-
-    /// The same for a sheet and a handler of so many commands.
-    pub fn sized(cells: &[Atom], lines: usize, commands: usize, handler: usize) -> Lent {
         Lent {
             values: cells.iter().map(|cell| cell.number).collect(),
             labels: cells.iter().map(|cell| cell.label.into()).collect(),
             rule_memory: vec![0; 7],
-            program: vec![0; 2 * commands],
+            program: vec![0; 2 * crate::sheet::COMMANDS],
             stack: vec![0; 3 * STACK],
-            handler: vec![0; 2 * handler],
+            handler: vec![0; 2 * kernel::COMMANDS],
             numbers: vec![0; lines],
             line_labels: vec![0; lines],
             kinds: vec![0; lines],
             pages: vec![0; lines],
         }
-    }
-
-    /// The same memory with these words for a rule memory.
-    pub fn with_rule_memory(&self, words: &[i64]) -> Lent {
-        Lent { rule_memory: words.to_vec(), ..self.clone() }
     }
 
     /// How many lines fit: the shortest of the output space's four runs says so.
@@ -212,39 +200,36 @@ pub fn judged(
     Ok(run(machine, &commands, lent, fuel, judge))
 }
 
-/// A handler with the table that it should speak for, and what it did so far.
-struct Kernel<'a> {
+/// A rule memory of one row, with the handler behind it.
+struct Tags<'a, N> {
+    memory: RuleMemory,
     handler: Handler<'a>,
     table: &'a Table,
     faults: u64,
     kernel_steps: u64,
     wrong: Option<HandlerFault>,
+    /// Told what the rule memory holds and what it is asked, for tests that count.
+    note: N,
 }
 
-impl<'a> Kernel<'a> {
-    fn new(handler: Handler<'a>, table: &'a Table) -> Kernel<'a> {
-        let too_many = handler.count > kernel::COMMANDS;
-        let wrong = too_many.then_some(HandlerFault::TooManyCommands(handler.count));
-        Kernel { handler, table, faults: 0, kernel_steps: 0, wrong }
-    }
-
-    /// Writes the question into a row, runs the handler on it, and holds what it did to the table's own answer.
-    fn fault(&mut self, row: &mut RuleMemory, question: &Question) {
-        row[..5].copy_from_slice(&question.words());
-        row[5..].fill(-1);
+impl<N> Tags<'_, N> {
+    /// Writes the question, runs the handler, and holds what it did to the table's own answer.
+    fn fault(&mut self, question: &Question) {
+        self.memory[..5].copy_from_slice(&question.words());
+        self.memory[5..].fill(-1);
         self.faults += 1;
-        let mut expected = *row;
+        let mut expected = self.memory;
         let answer = self.table.answer(question);
         if let Some(labels) = answer {
             expected[5] = labels.place.into();
             expected[6] = labels.result.into();
         }
-        match kernel::run(self.handler.words, self.handler.count, row) {
+        match kernel::run(self.handler.words, self.handler.count, &mut self.memory) {
             Ok((ending, steps)) => {
                 self.kernel_steps += steps;
                 let right = answer.is_some() == (ending == Ending::Returned);
-                if !right || *row != expected {
-                    self.blame(HandlerFault::WrongAnswer(*question, ending, *row));
+                if !right || self.memory != expected {
+                    self.blame(HandlerFault::WrongAnswer(*question, ending, self.memory));
                 }
             }
             Err(breach) => self.blame(HandlerFault::Breach(*question, breach)),
@@ -256,29 +241,16 @@ impl<'a> Kernel<'a> {
     }
 }
 
-/// The labels that a row holds, unless it has the −1 pair.
-fn labels_of(row: &RuleMemory) -> Option<Labels> {
-    match (Label::try_from(row[5]), Label::try_from(row[6])) {
-        (Ok(place), Ok(result)) => Some(Labels { place, result }),
-        _ => None,
-    }
-}
-
-/// A rule memory of one row, with the handler behind it.
-struct Tags<'a, N> {
-    memory: RuleMemory,
-    kernel: Kernel<'a>,
-    /// Told what the rule memory holds and what it is asked, for tests that count.
-    note: N,
-}
-
 impl<N: FnMut(&RuleMemory, &Question)> Judge for Tags<'_, N> {
     fn judge(&mut self, question: &Question) -> Option<Labels> {
         (self.note)(&self.memory, question);
         if self.memory[..5] != question.words() {
-            self.kernel.fault(&mut self.memory, question);
+            self.fault(question);
         }
-        labels_of(&self.memory)
+        match (Label::try_from(self.memory[5]), Label::try_from(self.memory[6])) {
+            (Ok(place), Ok(result)) => Some(Labels { place, result }),
+            _ => None,
+        }
     }
 }
 
@@ -336,12 +308,13 @@ fn tagged_run(
         (lent.handler.len(), 2 * handler.count),
     ])?;
     allowance(fuel)?;
-    let mut tags = Tags { memory: [0; 7], kernel: Kernel::new(handler, &table), note };
+    let too_many = handler.count > kernel::COMMANDS;
+    let wrong = too_many.then_some(HandlerFault::TooManyCommands(handler.count));
+    let mut tags = Tags { memory: [0; 7], handler, table: &table, faults: 0, kernel_steps: 0, wrong, note };
     tags.memory.copy_from_slice(&lent.rule_memory);
     let machine = Machine::new(cells, clearances, lent.room());
     let report = run(machine, &commands, lent, fuel, &mut tags);
     lent.handler[..2 * handler.count].copy_from_slice(&handler.words[..2 * handler.count]);
     lent.rule_memory.copy_from_slice(&tags.memory);
-    let Kernel { faults, kernel_steps, wrong, .. } = tags.kernel;
-    Ok((Report { faults, kernel_steps, ..report }, wrong))
+    Ok((Report { faults: tags.faults, kernel_steps: tags.kernel_steps, ..report }, tags.wrong))
 }

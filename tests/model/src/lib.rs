@@ -1,4 +1,4 @@
-//! The labelled sheet machine in plain Rust, written from document 01 and document 02's changes U1 to U7 alone, to hold
+//! The labelled sheet machine in plain Rust, written from document 01 and document 02's changes U1 to U6 alone, to hold
 //! the proved engines against. docs/MANUAL.md describes the machine in other words.
 //!
 //! It shares nothing with them: sheets are decoded to an enum, rule tables to trees, the stack is a `Vec`. What

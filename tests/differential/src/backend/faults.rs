@@ -247,94 +247,10 @@ pub enum Fault {
     RetVRowRefused,
     /// A table without RetV's rule is accepted, with the standard one.
     OldTableAccepted,
-    /// A match moves the turn on.
-    TurnOnMatch,
-    /// The turn goes from 63 to 64, a row that is not lent, and from there to 0.
-    TurnTo64,
-    /// The turn is how many faults there were.
-    TurnUncut,
-    /// The turn stays at 63.
-    TurnStays,
-    /// A run starts with the turn that the run before came to.
-    TurnKept,
-    /// A run starts with the turn of the first empty row.
-    TurnAtEmpty,
-    /// A fault that ends in stop 6 does not move the turn.
-    DeniedKeepsTurn,
-    /// A fault that ends in stop 6 leaves its row empty.
-    DeniedRowEmptied,
-    /// Row 0 is not searched.
-    SearchFromOne,
-    /// Row 63 is not searched.
-    SearchToLast,
-    /// Rows behind an empty one are not searched.
-    SearchToEmpty,
-    /// Only what was written in this run is searched.
-    SearchToTurn,
-    /// A row of another place label is used.
-    RowOfOtherPlace,
-    /// A row of another third input is used.
-    RowOfOtherInput,
-    /// At a match the labels are row 0's.
-    LabelsOfRowZero,
-    /// A row that matches changes places with row 0.
-    MatchToFront,
-    /// A command that was asked of before uses the row that it used then, whatever stands there now.
-    RowRemembered,
-    /// It does so where the row there is of the same command.
-    RowRememberedByCode,
-    /// It uses the row that the command 256 before it used.
-    RowRemembered256,
-    /// A fault overwrites the row after the turn's.
-    OverwritesNext,
-    /// A fault overwrites the first empty row, and the turn's only where there is none.
-    OverwritesEmpty,
-    /// Every fault overwrites row 0.
-    OverwritesRowZero,
-    /// The handler works on row 0, and the turn's row keeps the −1 pair.
-    HandlerOnRowZero,
-    /// A run starts with empty rows.
-    FillingIgnored,
-    /// The rows are left as they came.
-    RowsNotLeft,
-    /// 63 rows are accepted.
-    SixtyThreeRows,
-    /// More than 64 rows are accepted.
-    ManyRows,
-    /// Words that are less than a row are not counted.
-    RowsRounded,
-    /// Row 0 alone is checked.
-    FirstRowChecked,
-    /// Row 63 is not checked.
-    LastRowUnchecked,
-    /// The place of refusal 7 is the last row at fault.
-    RowPlaceLast,
-    /// The place of refusal 7 is 0.
-    RowPlaceLost,
-    /// The place of refusal 7 counts rows from 1.
-    RowPlaceFromOne,
-    /// The place of refusal 7 for another number of rows than 64 is that number.
-    RowsCounted,
-    /// The rows are checked before their number.
-    RowsCountedLast,
-    /// The rows are checked before the table, as far as that can be.
-    RowsBeforeTable,
-    /// The rows are checked after the spaces.
-    RowsAfterSpaces,
-    /// The rows are checked after all else.
-    RowsLast,
-    /// A start that is refused by 7 has its place for a turn.
-    TurnOfRefused,
-    /// The row that is refused is made empty.
-    RefusedRowEmptied,
-    /// An empty row in front of a filled one is refused.
-    GapRefused,
-    /// A row that stands there twice is refused.
-    AlikeRefused,
 }
 
 /// Each of them once.
-pub static FAULTS: [Fault; 164] = [
+pub static FAULTS: [Fault; 122] = [
     Fault::OutputWithoutPlace,
     Fault::BranchWithoutPlace,
     Fault::StoreOnNewLabel,
@@ -457,48 +373,6 @@ pub static FAULTS: [Fault; 164] = [
     Fault::CallNRowRefused,
     Fault::RetVRowRefused,
     Fault::OldTableAccepted,
-    Fault::TurnOnMatch,
-    Fault::TurnTo64,
-    Fault::TurnUncut,
-    Fault::TurnStays,
-    Fault::TurnKept,
-    Fault::TurnAtEmpty,
-    Fault::DeniedKeepsTurn,
-    Fault::DeniedRowEmptied,
-    Fault::SearchFromOne,
-    Fault::SearchToLast,
-    Fault::SearchToEmpty,
-    Fault::SearchToTurn,
-    Fault::RowOfOtherPlace,
-    Fault::RowOfOtherInput,
-    Fault::LabelsOfRowZero,
-    Fault::MatchToFront,
-    Fault::RowRemembered,
-    Fault::RowRememberedByCode,
-    Fault::RowRemembered256,
-    Fault::OverwritesNext,
-    Fault::OverwritesEmpty,
-    Fault::OverwritesRowZero,
-    Fault::HandlerOnRowZero,
-    Fault::FillingIgnored,
-    Fault::RowsNotLeft,
-    Fault::SixtyThreeRows,
-    Fault::ManyRows,
-    Fault::RowsRounded,
-    Fault::FirstRowChecked,
-    Fault::LastRowUnchecked,
-    Fault::RowPlaceLast,
-    Fault::RowPlaceLost,
-    Fault::RowPlaceFromOne,
-    Fault::RowsCounted,
-    Fault::RowsCountedLast,
-    Fault::RowsBeforeTable,
-    Fault::RowsAfterSpaces,
-    Fault::RowsLast,
-    Fault::TurnOfRefused,
-    Fault::RefusedRowEmptied,
-    Fault::GapRefused,
-    Fault::AlikeRefused,
 ];
 
 /// Where this one stands among them.
@@ -513,10 +387,5 @@ pub fn of_clearances() -> &'static [Fault] {
 
 /// Those that are in what either engine makes of calls that bring something back.
 pub fn of_calls() -> &'static [Fault] {
-    &FAULTS[index(Fault::RetOnResult)..index(Fault::TurnOnMatch)]
-}
-
-/// Those that the engine of 64 rows alone can have.
-pub fn of_rows() -> &'static [Fault] {
-    &FAULTS[index(Fault::TurnOnMatch)..]
+    &FAULTS[index(Fault::RetOnResult)..]
 }

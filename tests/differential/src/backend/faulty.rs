@@ -2,16 +2,15 @@
 
 mod calls;
 mod clearances;
-mod rows;
 
 use self::clearances::Asked;
 use super::faults::{of_calls, Fault};
-use super::{fits, model_page, page_from, put_page, Answer, Backend, Itself, RowsAnswer, PAGE_LIMIT};
-use model::engine::rows::by_rows;
-use model::engine::{judged, tagged, Lent, ALLOWANCE};
+use super::{fits, model_page, page_from, put_page, Answer, Backend, Itself, PAGE_LIMIT};
+use model::engine::{judged, tagged, Handler, Lent, Report};
+use model::kernel;
 use model::machine::{whole, Entry, Judge, Kind, Line, Machine, Pages, Stack, Stop};
 use model::page::{page, printed, read};
-use model::rules::{standard, Labels, Question, Table};
+use model::rules::{standard, Labels, Question, RuleMemory, Table};
 use model::sheet::{decode, Command};
 use model::{flows, Atom, Label, Refusal};
 
@@ -232,6 +231,94 @@ impl Judge for Rules {
     }
 }
 
+/// A rule memory with the fault in what it holds or in what becomes of lines, calls and returns.
+struct Rows<'a> {
+    fault: Fault,
+    memory: RuleMemory,
+    handler: Handler<'a>,
+    faults: u64,
+    kernel_steps: u64,
+    asked: Asked,
+}
+
+impl Rows<'_> {
+    /// Whether the row is taken for that of these five words.
+    fn matches(&self, words: [i64; 5]) -> bool {
+        let codes = [self.memory[0], words[0]];
+        let taken = match self.fault {
+            Fault::OutputRowTaken => codes == [4, 12],
+            Fault::OutputToRowTaken => codes == [12, 4],
+            Fault::CallRowTaken => codes == [10, 13],
+            Fault::CallNRowTaken => codes == [13, 10],
+            _ => false,
+        };
+        (codes[0] == codes[1] || taken) && self.memory[1..5] == words[1..]
+    }
+}
+
+impl Judge for Rows<'_> {
+    fn judge(&mut self, question: &Question) -> Option<Labels> {
+        let mut words = question.words();
+        words[0] = match (self.fault, words[0]) {
+            (Fault::OutputToAsOutput, 12) => 4,
+            (Fault::CallNAsCall, 13) => 10,
+            (_, code) => code,
+        };
+        self.asked = Asked { input: question.inputs[0].unwrap_or(0), matched: self.matches(words) };
+        if !self.asked.matched {
+            self.memory[..5].copy_from_slice(&words);
+            self.memory[5..].fill(-1);
+            self.faults += 1;
+            if self.fault == Fault::OutputToDenied && words[0] == 12 {
+                return None;
+            }
+            let run = kernel::run(self.handler.words, self.handler.count, &mut self.memory);
+            self.kernel_steps += run.expect("the handler is as it should be").1;
+        }
+        let label = |word| Label::try_from(word).ok();
+        Some(Labels { place: label(self.memory[5])?, result: label(self.memory[6])? })
+    }
+
+    fn inputs(&mut self, machine: &Machine, command: Command) -> Result<Vec<Atom>, Stop> {
+        let inputs = self.fault.inputs(machine, command);
+        if (self.fault, &inputs) == (Fault::ResultsAfterRule, &Err(Stop::ResultsDiffer)) {
+            let question = calls::question(machine, command);
+            return Err(self.judge(&question).map_or(Stop::NotAllowed, |_| Stop::ResultsDiffer));
+        }
+        inputs
+    }
+
+    fn call(&mut self, stack: &mut Stack, command: Command, arguments: usize, frame: Entry) {
+        self.fault.call(stack, command, arguments, frame);
+    }
+
+    fn bring_back(&mut self, stack: &mut Stack, result: Atom) {
+        self.fault.bring_back(stack, result);
+    }
+
+    fn write(&mut self, pages: &mut Pages, line: Line) -> Result<(), Stop> {
+        self.fault.write(pages, line, self.asked)
+    }
+}
+
+/// A run of the tag engine with the fault in its rule memory or its lines.
+fn rows(
+    fault: Fault,
+    sheet: &[u8],
+    handler: Handler,
+    lent: &mut Lent,
+    clearances: &[i64],
+    fuel: u64,
+) -> Answer {
+    let mut memory = [0; 7];
+    memory.copy_from_slice(&lent.rule_memory);
+    let mut rows = Rows { fault, memory, handler, faults: 0, kernel_steps: 0, asked: Asked::default() };
+    let report = judged(sheet, lent, clearances, fuel, &mut rows);
+    lent.rule_memory.copy_from_slice(&rows.memory);
+    lent.handler[..2 * handler.count].copy_from_slice(handler.words);
+    report.map(|report| Report { faults: rows.faults, kernel_steps: rows.kernel_steps, ..report }).into()
+}
+
 impl Faulty {
     /// The plain engine on a sheet that was checked.
     fn plain_run(&self, sheet: &[u8], lent: &mut Lent, clearances: &[i64], fuel: u64) -> Answer {
@@ -244,23 +331,20 @@ impl Faulty {
         })
     }
 
-    /// A tag engine on a sheet that was checked. Its rule memory has one row, or 64.
+    /// The tag engine on a sheet that was checked.
     fn tagged_run(
         &self,
-        many: bool,
         sheet: &[u8],
         table: &[u8],
         lent: &mut Lent,
         clearances: &[i64],
         fuel: u64,
-    ) -> RowsAnswer {
-        let came = lent.clone();
-        for row in lent.rule_memory.chunks_mut(7) {
-            match self.0 {
-                Fault::DeniedRowAccepted if row.ends_with(&[-1, -1]) => row.fill(0),
-                Fault::NextRowAccepted if row[0] == 15 => row[0] = 4,
-                _ => {}
-            }
+    ) -> Answer {
+        let code = lent.rule_memory.first().copied();
+        match self.0 {
+            Fault::DeniedRowAccepted if lent.rule_memory.ends_with(&[-1, -1]) => lent.rule_memory.fill(0),
+            Fault::NextRowAccepted if code == Some(15) => lent.rule_memory[0] = 4,
+            _ => {}
         }
         let longer = self.0.table(table);
         let table = &longer[..];
@@ -269,38 +353,28 @@ impl Faulty {
             sample.allow_all();
         }
         let mut before = lent.clone();
-        let run = |lent: &mut Lent, fuel| -> rows::Used {
-            let handler = sample.handler();
+        let run = |lent: &mut Lent, fuel| -> Answer {
             let mut unchanged = lent.clone();
-            let answer = if many {
-                // No step is needed to know whether it is refused.
-                let fuel = if fuel > ALLOWANCE { fuel } else { 0 };
-                let mut checked = lent.with_rule_memory(&self.0.checked(table, &lent.rule_memory));
-                by_rows(sheet, table, handler, &mut checked, clearances, fuel).answer
-            } else {
-                tagged(sheet, table, handler, lent, clearances, fuel).answer
-            };
-            if answer.is_err() || !many && !self.0.is_of_rows() {
-                return rows::Used { run: answer.into(), turn: 0, row: 0 };
+            let answer = tagged(sheet, table, sample.handler(), lent, clearances, fuel).answer;
+            if answer.is_err() || !self.0.is_of_rows() {
+                return answer.into();
             }
-            let answer = rows::run(self.0, sheet, handler, &mut unchanged, clearances, fuel);
+            let answer = rows(self.0, sheet, sample.handler(), &mut unchanged, clearances, fuel);
             *lent = unchanged;
             answer
         };
-        let (mut turn, mut row) = (0, 0);
-        let mut answer = self.ending(sheet, lent, fuel, |lent| {
-            let used = run(lent, fuel);
-            (turn, row) = (used.turn, used.row);
-            used.run
-        });
+        let mut answer = self.ending(sheet, lent, fuel, |lent| run(lent, fuel));
         if let (Fault::OverflowUnasked, 9) | (Fault::UnclearedUnasked, 10) = (self.0, answer.words[2]) {
             let spent = run(&mut before, answer.words[3]);
-            answer.words[8..].copy_from_slice(&spent.run.words[8..]);
+            answer.words[8..].copy_from_slice(&spent.words[8..]);
             lent.rule_memory.copy_from_slice(&before.rule_memory);
-            turn = spent.turn;
         }
         if self.0 == Fault::FaultTooMany && answer.words[8] > 0 {
             answer.words[8] += 1;
+        }
+        let refused = answer.words[0] != 0;
+        if self.0 == Fault::NextRowAccepted && code == Some(15) && refused {
+            lent.rule_memory[0] = 15;
         }
         let no_row = match self.0 {
             Fault::OutputToRowRefused => Some(12),
@@ -308,34 +382,29 @@ impl Faulty {
             Fault::RetVRowRefused => Some(14),
             _ => None,
         };
-        if answer.words[0] != 0 {
-            lent.rule_memory.copy_from_slice(&came.rule_memory);
-        } else if let Some(row) = came.rule_memory.chunks(7).position(|row| Some(row[0]) == no_row) {
-            *lent = came;
-            return RowsAnswer { run: Err(Refusal::new(7, row)).into(), turn: 0 };
+        if no_row.is_some() && code == no_row && !refused {
+            *lent = before;
+            return Err(Refusal::new(7, 0)).into();
         }
-        self.stopped_line(&mut answer, sheet, table, lent, row, clearances);
-        RowsAnswer { run: answer, turn }
+        self.stopped_line(&mut answer, sheet, table, lent, clearances);
+        answer
     }
 
-    /// Puts the fault into how a tag engine stops at a line that its rule or its page stops; `row` is the one that it
-    /// used for the line.
+    /// Puts the fault into how the tag engine stops at a line that its rule or its page stops.
     fn stopped_line(
         &self,
         answer: &mut Answer,
         sheet: &[u8],
         table: &[u8],
         lent: &mut Lent,
-        row: usize,
         clearances: &[i64],
     ) {
         let [0, _, stop, _, pc, ..] = answer.words else { return };
         let commands = decode(sheet).unwrap_or_default();
         let Some(page) = page_from(&commands, pc) else { return };
-        let row = &mut lent.rule_memory[7 * row..7 * row + 7];
         match (self.0, stop) {
             (Fault::UnclearedBeforeDenied, 6) => {
-                let question = Question::of_words(&row[..5]);
+                let question = Question::of_words(&lent.rule_memory[..5]);
                 let table = Table::parse(table).ok();
                 let label = question.zip(table).map_or(0, |(question, table)| table.result(&question));
                 if !flows(label, clearances[usize::from(page)] as Label) {
@@ -343,7 +412,7 @@ impl Faulty {
                 }
             }
             (Fault::UnclearedLeavesDenied, 10) if pc < commands.len() as u64 => {
-                row[5..].fill(-1);
+                lent.rule_memory[5..].fill(-1);
             }
             _ => {}
         }
@@ -363,32 +432,10 @@ impl Backend for Faulty {
     fn tagged(&self, sheet: &[u8], table: &[u8], lent: &mut Lent, clearances: &[i64], fuel: u64) -> Answer {
         let mut came = lent.clone();
         let answer = match self.check(sheet) {
-            Ok(sheet) => {
-                self.tagged_run(false, &sheet, table, lent, &self.0.clearances(clearances), fuel).run
-            }
+            Ok(sheet) => self.tagged_run(&sheet, table, lent, &self.0.clearances(clearances), fuel),
             Err(refusal) => Err(refusal).into(),
         };
         self.refused(answer, clearances, |others| self.tagged(sheet, table, &mut came, others, fuel))
-    }
-
-    fn rows(
-        &self,
-        sheet: &[u8],
-        table: &[u8],
-        lent: &mut Lent,
-        clearances: &[i64],
-        fuel: u64,
-    ) -> Option<RowsAnswer> {
-        let mut came = lent.clone();
-        let RowsAnswer { run, turn } = match self.check(sheet) {
-            Ok(sheet) => self.filled_run(&sheet, table, lent, &self.0.clearances(clearances), fuel),
-            Err(refusal) => RowsAnswer { run: Err(refusal).into(), turn: 0 },
-        };
-        let again = |others: &[i64]| {
-            let answer = self.rows(sheet, table, &mut came, others, fuel);
-            answer.expect("there is an engine of 64 rows").run
-        };
-        Some(RowsAnswer { run: self.refused(run, clearances, again), turn })
     }
 
     fn handler_count(&self, table: &[u8]) -> u64 {

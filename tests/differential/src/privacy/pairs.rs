@@ -1,7 +1,6 @@
 //! What the pairs of runs were: a search that never meets two runs that part says nothing.
 
 use super::Pair;
-use model::engine::rows::ROWS;
 use model::machine::Stop;
 use model::sheet::PAGES;
 
@@ -12,10 +11,8 @@ pub struct Pairs {
     pub with_lines: u64,
     /// Pairs that went different ways: their steps or stops differ.
     pub apart: u64,
-    /// Pairs by the engines of their runs, whose views both have lines: plain, of one row, of 64 rows.
-    pub engines: [[u64; 3]; 3],
-    /// Pairs from different cells with a run in which the turn of 64 rows went round, and lines in both views.
-    pub round: u64,
+    /// Pairs of one run on each engine.
+    pub mixed: u64,
     /// Lines that one view has beyond the other.
     pub cut: u64,
     pub lines: u64,
@@ -56,12 +53,8 @@ pub struct Pairs {
 impl Pairs {
     pub fn print(&self) {
         println!(
-            "pairs {}, views with lines {}, lines compared {}, different ways {}, one view longer {}",
-            self.pairs, self.with_lines, self.lines, self.apart, self.cut
-        );
-        println!(
-            "views with lines, by the engines plain, tagged and rows: {:?}; the turn of 64 rows went round {}",
-            self.engines, self.round
+            "pairs {}, views with lines {}, lines compared {}, different ways {}, one on each engine {}, one view longer {}",
+            self.pairs, self.with_lines, self.lines, self.apart, self.mixed, self.cut
         );
         println!(
             "end lines in both views {}, in one {}, outside the set {}",
@@ -96,8 +89,7 @@ impl Pairs {
         let never = [
             ("views with lines", self.with_lines),
             ("different ways", self.apart),
-            ("some two engines", self.engines.iter().flatten().copied().min().unwrap_or(0)),
-            ("64 rows gone round", self.round),
+            ("one on each engine", self.mixed),
             ("one view longer", self.cut),
             ("end lines in both views", self.both_end),
             ("an end line in one view", self.one_ends),
@@ -130,9 +122,7 @@ impl Pairs {
         self.pairs += 1;
         self.with_lines += u64::from(common > 0);
         self.apart += u64::from((one.stop, one.steps) != (two.stop, two.steps));
-        self.engines[one.engine as usize][two.engine as usize] += u64::from(common > 0);
-        let round = pair.runs().into_iter().any(|run| run.row_faults >= ROWS as u64);
-        self.round += u64::from(common > 0 && pair.cells_differ && round);
+        self.mixed += u64::from(one.on_plain != two.on_plain);
         self.cut += u64::from(one.view.len() != two.view.len());
         self.lines += common as u64;
         let ends = [one.has_end_line(), two.has_end_line()];

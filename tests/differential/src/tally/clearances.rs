@@ -93,13 +93,13 @@ impl Clearances {
         add(&mut self.either, met);
     }
 
-    /// The same for what a tag engine alone can meet; `row` is the row that was used last, and `matched` whether the
-    /// command that was asked of then found it there.
+    /// The same for what the tag engine alone can meet; `matched` is whether the command that was asked of last found
+    /// its row there.
     pub fn note_tagged(
         &mut self,
         answer: &Answer,
         start: &Start,
-        row: &[i64],
+        lent: &Lent,
         table: Option<&Table>,
         later: u64,
         matched: bool,
@@ -111,7 +111,7 @@ impl Clearances {
         let denied = page_from(&commands, pc).filter(|_| stopped(6));
         let both = denied.zip(table).is_some_and(|(page, table)| {
             // At stop 6 the row has the question, and the table says what label the line would have.
-            let label = Question::of_words(&row[..5]).map(|question| table.result(&question));
+            let label = Question::of_words(&lent.rule_memory[..5]).map(|question| table.result(&question));
             label.is_some_and(|label| !flows(label, start.clearances[usize::from(page)] as Label))
         });
         let met = [

@@ -1,9 +1,8 @@
-//! What the tests of the machine share: runs on all three engines, which must agree.
+//! What the tests of the machine share: runs on both engines, which must agree.
 
 // Not every test file uses all of it.
 #![allow(dead_code)]
 
-use model::engine::rows::{by_rows, WORDS};
 use model::engine::{plain, tagged, Lent, Report, CLEARED_FOR_ALL};
 use model::machine::{Kind, Line, Stop};
 use model::rules::{Table, STANDARD};
@@ -13,7 +12,7 @@ use model::{Atom, Label, Refusal};
 
 pub const CELLS: [Atom; 2] = [Atom { number: 7, label: 0 }, Atom { number: 5, label: 1 }];
 
-/// A run on the engines, which must agree: report, lines and memory of the tag engine with one row.
+/// A run on both engines, which must agree: the report, the lines and the rule memory.
 pub struct Run {
     pub report: Report,
     pub lines: Vec<Line>,
@@ -49,23 +48,18 @@ pub fn run_cleared(
     let sample = Sample::of(&Table::parse(&STANDARD).unwrap());
     let mut lent = Lent::roomy(cells, lines);
     let tagged = tagged(&sheet, &STANDARD, sample.handler(), &mut lent, clearances, fuel);
-    let mut with_rows = Lent::roomy(cells, lines).with_rule_memory(&[0; WORDS]);
-    let by_rows = by_rows(&sheet, &STANDARD, sample.handler(), &mut with_rows, clearances, fuel);
-    assert_eq!((tagged.wrong, by_rows.wrong), (None, None));
-    let report = match (plain, tagged.answer, by_rows.answer) {
-        (Ok(plain), Ok(tagged), Ok(by_rows)) => {
-            for report in [tagged, by_rows] {
-                assert_eq!(Report { faults: 0, kernel_steps: 0, ..report }, plain);
-            }
-            assert_eq!(with_rows.with_rule_memory(&lent.rule_memory), lent);
+    assert_eq!(tagged.wrong, None);
+    let report = match (plain, tagged.answer) {
+        (Ok(plain), Ok(tagged)) => {
+            assert_eq!(Report { faults: 0, kernel_steps: 0, ..tagged }, plain);
             assert_eq!(
                 Lent { rule_memory: vec![0; 7], handler: vec![0; lent.handler.len()], ..lent.clone() },
                 by_plain
             );
             tagged
         }
-        (plain, tagged, by_rows) => {
-            assert_eq!((plain, by_rows), (tagged, tagged));
+        (plain, tagged) => {
+            assert_eq!(plain, tagged);
             return Err(tagged.unwrap_err());
         }
     };

@@ -11,8 +11,8 @@ use Rattle.step.specs.Effect.{effect_of}
 use Rattle.engine.specs.Act.{Asked, acted}
 use Rattle.handler.specs.Kernel.{Result}
 use Rattle.handler.specs.Space.{handle_space}
-use Rattle.tagging.specs.Consult.{cache, tag, consult}
-use Rattle.tagged.specs.Ruling.{five_for, ruled_by, consulted_by}
+use Rattle.tagging.specs.Consult.{tag, consult}
+use Rattle.tagged.specs.Ruling.{five_for, ruling_of}
 use Rattle.tagged.proofs.Acting.{act-halted, act-allowed, act-denied}
 use borrow.Author.Rules.{rules}
 use Rattle.tagged.proofs.run.act.Statement.{statement}
@@ -44,48 +44,45 @@ module _ (f : tie.After-find) where
 -- and was ruled on
 module _ (k : tie.After-consult) where
   abbrev at-find : tie.After-find
-  at-find = k.before.before.before.before.before
+  at-find = k.before.before.before
 
-  ruled : consulted_by (ruled_by k.consult.result) k.consult.last.1.1.1.0
-      ≡ consult (handler at-find) (five_for (asks at-find (start at-find).args.word)) (cache (start at-find).args.rows.now (start at-find).args.turn)
+  ruled : ruling_of k.consult.result
+      ≡ consult (handler at-find) (five_for (asks at-find (start at-find).args.word)) (start at-find).args.cache.words
   ruled =
       let s = start at-find in
       k.consult.ensures
-      ∙ ap (λ x. consult (handler at-find) x (cache s.args.rows.now s.args.turn))
-      (k.before.before.before.five-words.ensures ∙ ap (λ w. five_for (asks at-find w)) (back {z = s.args.word} s.fits.word))
+      ∙ ap (λ x. consult (handler at-find) x s.args.cache.words)
+      (k.before.five-words.ensures ∙ ap (λ w. five_for (asks at-find w)) (back {z = s.args.word} s.fits.word))
 
 returns : tie.Need-returns
 returns c =
     let f = c.before.before in
     let s = start f in
-    ap (λ r. acted (after r (runs f)) (tag (cache s.args.rows.now s.args.turn) 0 0)) c.stopped.ensures
-    ∙ act-halted (handler f) s.args.word s.args.operand s.args.m (runs f) (cache s.args.rows.now s.args.turn) f.find.result (found f)
+    ap (λ r. acted (after r (runs f)) (tag s.args.cache.words 0 0)) c.stopped.ensures
+    ∙ act-halted (handler f) s.args.word s.args.operand s.args.m (runs f) s.args.cache.words f.find.result (found f)
     c.before.if1.true
 
 returns-2 : tie.Need-returns-2
 returns-2 c =
     let e = c.before.before.before in
     let k = e.before.before.before.before.before.before in
-    let f = k.before.before.before.before.before in
+    let f = k.before.before.before in
     let s = start f in
-    let ruling = k.consult.result in
-    act-allowed (handler f) s.args.word s.args.operand s.args.m (runs f) (cache s.args.rows.now s.args.turn) f.find.result (found f)
-    k.before.before.before.before.if1.false ruling.allowed ruling.place.0 ruling.result.0 (cache k.consult.new.1.1.1.0 ruling.turn)
-    ruling.faults ruling.steps (ruled k) e.before.before.before.before.if2.true _
+    act-allowed (handler f) s.args.word s.args.operand s.args.m (runs f) s.args.cache.words f.find.result (found f)
+    k.before.before.if1.false k.consult.result (ruled k) e.before.before.before.before.if2.true _
     (e.effect.ensures
-    ∙ ap₂ (λ n z. effect_of ruling.place.0 ruling.result.0 s.args.m n z (runs f)) (code f)
+    ∙ ap₂ (λ n z. effect_of k.consult.result.place.0 k.consult.result.result.0 s.args.m n z (runs f)) (code f)
     (back {z = s.args.operand} s.fits.operand))
 
 returns-3 : tie.Need-returns-3
 returns-3 c =
     let k = c.before.before.before in
-    let f = k.before.before.before.before.before in
+    let f = k.before.before.before in
     let s = start f in
     let ruling = k.consult.result in
-    ap (λ r. acted (after r (runs f)) (tag (cache k.consult.new.1.1.1.0 ruling.turn) ruling.faults ruling.steps)) c.stopped2.ensures
-    ∙ act-denied (handler f) s.args.word s.args.operand s.args.m (runs f) (cache s.args.rows.now s.args.turn) f.find.result (found f)
-    k.before.before.before.before.if1.false ruling.allowed ruling.place.0 ruling.result.0 (cache k.consult.new.1.1.1.0 ruling.turn)
-    ruling.faults ruling.steps (ruled k) c.before.if2.false
+    ap (λ r. acted (after r (runs f)) (tag ruling.cache.words ruling.faults ruling.steps)) c.stopped2.ensures
+    ∙ act-denied (handler f) s.args.word s.args.operand s.args.m (runs f) s.args.cache.words f.find.result (found f)
+    k.before.before.if1.false ruling (ruled k) c.before.if2.false
 
 pub act-spec : {M : Type 1} → statement M
 act-spec =
@@ -104,10 +101,8 @@ act-spec =
     (λ c. search rules)
     (λ c. search rules)
     (λ c. search rules)
-    (λ c. search rules)
     returns-2
     (λ c κs. search rules)
-    (λ c. search rules)
     (λ c. search rules)
     (λ c. search rules)
     (λ c. search rules)
