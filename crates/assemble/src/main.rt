@@ -1,5 +1,6 @@
 // `assemble` reads a text from standard input and writes its sheet, which `assembly` makes, to standard output; or `refused`, the
 // number and the line to standard error.
+#![tactic(auto)]
 use assembly::Written;
 
 fn main() {

@@ -37,9 +37,11 @@ pub record Reads (m : ℕ) (k : Key) : Type 0 where
 
 readable-word : (i : Input) → Readable i → input_word i ≡ pos (label_of i)
 readable-word (present l) h = refl
+readable-word missing h = elim h [ ]
 
 readable-range : (i : Input) → Readable i → InRange (label_of i)
 readable-range (present l) h = h
+readable-range missing h = elim h [ ]
 
 -- what a translated condition leaves on the stack
 abbrev pub unless_zero : ℕ → ℕ → ℕ

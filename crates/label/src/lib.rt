@@ -1,4 +1,5 @@
 // Labels: sets of principals (document 01: owners). Read specs/Label.antt first.
+#![tactic(auto)]
 ghost use Rattle.std.specs.Prelude.{◌≡◌, pos};
 ghost use Rattle.label.specs.Label as Labels;
 ghost use Rattle.label.specs.Word.{stored, low_label};

@@ -1,5 +1,6 @@
 // `listing` reads a sheet from standard input and writes its text, which `assembly` makes, to standard output; or `refused`, the number
 // and the place to standard error.
+#![tactic(auto)]
 use assembly::Written;
 
 fn main() {

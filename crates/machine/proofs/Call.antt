@@ -46,6 +46,7 @@ module _ (owes : Bool) (a : Atom) (rest : List Entry) where
   under-values : {n : ℕ} (arguments : List Entry) {es below : List Entry} → Values n arguments → Under es → es ≡ arguments ++ below → Under below
   under-values [] none (above, e) g = (above, sym g ∙ e)
   under-values (value b ∷ arguments) (more v) u g = under-values arguments v (under-value u g) refl
+  under-values {n = n} (frame _ _ ∷ arguments) {es = es} {below = below} x8 u g = elim x8 [ ]
 
   over : (e : Entry) {es : List Entry} → Under es → Under (e ∷ es)
   over e (above, g) = (e ∷ above, ap (λ (l : List Entry). e ∷ l) g)

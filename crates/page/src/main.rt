@@ -1,4 +1,5 @@
 // `page` reads a job from standard input and prints its page, which `report` makes: nothing else is done here.
+#![tactic(auto)]
 fn main() {
     // one byte more than a job may have, so that a longer one is seen to be too long
     let mut space = [0u8; 65537];

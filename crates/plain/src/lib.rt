@@ -1,4 +1,5 @@
 // The plain engine: document 01's machine under the standard rules, on lent memory. Read specs/Plain.antt first.
+#![tactic(auto)]
 mod command;
 mod run;
 

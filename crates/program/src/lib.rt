@@ -1,4 +1,5 @@
 // Programs (document 01: sheets). Read in specs/: Command, Decode, Space; Encode for the way back.
+#![tactic(auto)]
 pub mod code;
 pub mod names;
 

@@ -1,5 +1,6 @@
 // Document 01's values, run: the readings R1 to R12 on the tag engine and, where they say nothing of the rules, on the plain engine; and
 // every stop.
+#![tactic(auto)]
 mod memory;
 mod print;
 mod readings;

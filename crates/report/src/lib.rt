@@ -1,4 +1,5 @@
 // The page program's work: from the bytes of a job to the bytes of a page. Read in specs/: Job, Lines, Page.
+#![tactic(auto)]
 pub mod job;
 mod print;
 

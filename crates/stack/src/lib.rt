@@ -1,4 +1,5 @@
 // The machine record and the lent stack, of which all engines are made. Read specs/Words.antt first.
+#![tactic(auto)]
 ghost use Rattle.std.specs.Prelude.{◌≡◌, ◌+◌, pos};
 ghost use Rattle.stack.specs.Words.{started, pushed, pushed_stack, refilled_stack, dropped, gone, following, printed};
 ghost use Rattle.stack.specs.Words.{outcome, carried_out, printing, slot_of, nothing_there, slot_at, Entry, set_entry};

@@ -1,4 +1,6 @@
 // Words of 64 bits and what is read from them and written of them. Read in specs/: Wrap, Exact, Number, Digits, Field, Text.
+#![tactic(auto)]
+
 pub mod exact;
 pub mod field;
 pub mod kind;

@@ -237,6 +237,8 @@ entry_inserted t f {n = suc n} (value a ∷ arguments) rest {st} (more v) h held
     entry_inserted (value a) f arguments rest v (omega arith) next labels.1
     ∙ ap (laid (stack_words (arguments ++ (f ∷ rest)))) above
     ∙ laid-over (stack_words (arguments ++ (f ∷ rest))) (stack_words (value a ∷ es)) (entry_words (value a)) st size
+entry_inserted t f {n = zero} (_ ∷ arguments) rest {st = st} x6 h held labels = elim x6 [ ]
+entry_inserted t f {n = suc n} (frame _ _ ∷ arguments) rest {st = st} x10 h held labels = elim x10 [ ]
 
 pub stack-inserted : (pc : ℤ) (label lines : ℕ) (t f : Entry) {n : ℕ} (arguments rest : List Entry) {st : List ℤ} → Values n arguments
     → length (t ∷ arguments ++ rest) ≤ 256 → 768 ≤ length st → Held (t ∷ arguments ++ rest) st → Labelled (arguments ++ rest)
