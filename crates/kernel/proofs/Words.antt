@@ -1,6 +1,6 @@
 -- The kernel on words: the stack that lies in a run of words, and the effects of instructions on it.
 -- Assumes nothing.
-use mathlib.Core.Path.{◌≡◌, refl, ap, ap₂}
+use mathlib.Core.Path.{◌≡◌, refl, ap, ap₂, ◌∙◌}
 use mathlib.Core.Bool.{true, false}
 use mathlib.Core.List.{List, ◌∷◌}
 use Prim.Native.Nat.{ℕ, zero, suc, ◌+◌, ◌-◌, ◌<◌, ◌≤◌}
@@ -39,7 +39,8 @@ module _ (w : List ℤ) where
   lying-set zero e a h q = absurd (omega arith)
   lying-set (suc d) e a h q =
       let f : d ≡ e = omega arith in
-      rw (f, lying-above e (suc e) a (omega arith), get_or-set_same w (suc e) a (pos 0) (omega arith))
+      ap₂ (λ (x : ℤ) (xs : List ℤ). x ∷ xs) (get_or-set_same w (suc d) a (pos 0) (omega arith))
+      (lying-above d (suc d) a (omega arith) ∙ ap (lying w) f)
 
   -- the topmost of them in a register
   pub lying-topped : (n : ℕ) → topped (get_or w n (pos 0)) n w ≡ lying w n

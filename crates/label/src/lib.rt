@@ -1,5 +1,6 @@
 // Labels: sets of principals (document 01: owners). Read specs/Label.antt first.
 #![tactic(auto)]
+
 ghost use Rattle.std.specs.Prelude.{◌≡◌, pos};
 ghost use Rattle.label.specs.Label as Labels;
 ghost use Rattle.label.specs.Word.{stored, low_label};
@@ -7,7 +8,7 @@ ghost use Rattle.label.specs.Word.{stored, low_label};
 use word::number::Natural;
 
 // A label of document 01: bit i is principal i.
-#[derive(Drop)]
+#[derive(Clone, Copy)]
 pub struct Label(pub u32);
 
 impl Label {

@@ -1,5 +1,6 @@
 // The machine record and the lent stack, of which all engines are made. Read specs/Words.antt first.
 #![tactic(auto)]
+
 ghost use Rattle.std.specs.Prelude.{◌≡◌, ◌+◌, pos};
 ghost use Rattle.stack.specs.Words.{started, pushed, pushed_stack, refilled_stack, dropped, gone, following, printed};
 ghost use Rattle.stack.specs.Words.{outcome, carried_out, printing, slot_of, nothing_there, slot_at, Entry, set_entry};
@@ -9,7 +10,7 @@ use label::Label;
 use word::kind::Pc;
 
 // The machine record: the place, its label, how many entries the stack has and how many lines are written.
-#[derive(Drop)]
+#[derive(Clone, Copy)]
 pub struct Machine {
     pub pc: Pc,
     pub label: Label,

@@ -7,7 +7,7 @@ ghost use Rattle.word.specs.Number.{index_of};
 use crate::number::Index;
 
 // A command number of document 01, as the place is one. A program can compute any, so it may lie outside the sheet.
-#[derive(Drop)]
+#[derive(Clone, Copy)]
 pub struct Pc(pub i64);
 
 impl Pc {
@@ -27,7 +27,7 @@ impl Pc {
 }
 
 // A cell address of document 01. A program can compute any, so it may lie outside the cells.
-#[derive(Drop)]
+#[derive(Clone, Copy)]
 pub struct Address(pub i64);
 
 impl Address {
