@@ -1,5 +1,6 @@
 // Programs (document 01: sheets). Read in specs/: Command, Decode, Space; Encode for the way back.
 #![tactic(auto)]
+
 pub mod code;
 pub mod names;
 
@@ -62,7 +63,7 @@ pub struct Name {
 
 // A command's operand: a signed number of so many bytes, of none where there is no operand; a page, an unsigned byte from 0 to 15; or
 // two counts, an unsigned byte each: how many arguments, 0 to 15, and how many results, 0 or 1.
-#[derive(Drop)]
+#[derive(Clone, Copy)]
 pub enum Operand {
     Signed(usize),
     Page,
@@ -71,7 +72,7 @@ pub enum Operand {
 
 // What the table of commands says of a code: its operand, how many inputs are supplied, whether there is a result, and the number of its
 // rule in a rule table.
-#[derive(Drop)]
+#[derive(Clone, Copy)]
 pub enum Shape {
     Of(Operand, usize, bool, usize),
     Unknown,
