@@ -4,7 +4,7 @@ ghost use Rattle.word.specs.Number.{is_zero};
 ghost use Rattle.policy.specs.Row.{empty_row};
 
 // The rule memory: code, P, L1, L2, L3, new place label, result label.
-#[derive(Drop)]
+#[derive(Clone, Copy)]
 pub struct Cache {
     pub words: [i64; 7],
 }
