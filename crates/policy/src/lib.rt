@@ -1,6 +1,7 @@
 // Rule tables, as definitions and theorems; of code it has what a byte stands for, the standard table and the rule memory. Read in specs/:
 // Expression, Evaluate; Token, Read for their bytes, Write for the way back; Standard; Row for the rule memory.
 #![tactic(auto)]
+
 pub mod row;
 pub mod standard_table;
 
