@@ -17,7 +17,7 @@ use policy::{RULES, owner};
 use program::{Refusal, Shape, shape_of};
 
 // The labels that a rule is asked with: P, and L1 to L3, of which those that the command does not supply do not count.
-#[derive(Drop)]
+#[derive(Clone, Copy)]
 pub struct Labels {
     pub place: Label,
     pub input1: Label,
