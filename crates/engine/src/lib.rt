@@ -1,6 +1,7 @@
 // What all engines share: the memory that they are lent, what they refuse, the loop that they go round. Read in specs/: Memory, Layout,
 // Start, Act, Loop, Ended; proofs/ shows that the loop on words is the machine's run under the engine's ruler.
 #![tactic(auto)]
+
 pub mod start;
 
 ghost use Rattle.std.specs.Prelude.{◌≡◌, min};
