@@ -26,7 +26,7 @@ pub struct Ran {
 
 // Request U5: each page's clearance, a set of owners, as sixteen words, page 0's first; and how many words were given, since from outside
 // it may be another number, which check 13 refuses.
-#[derive(Drop)]
+#[derive(Clone, Copy)]
 pub struct Clearances {
     pub words: [i64; 16],
     pub count: usize,

@@ -44,7 +44,7 @@ enum How {
 }
 
 // The kernel's registers: the place, how many entries the stack has, and the topmost of them; the others lie in words.
-#[derive(Drop)]
+#[derive(Clone, Copy)]
 struct Registers {
     place: u64,
     depth: usize,
