@@ -14,7 +14,6 @@ use Rattle.word.proofs.Laws.Decimal.{natural-length, decimal-length}
 use Rattle.program.specs.declared.Command.{Command}
 use Rattle.program.specs.declared.Command.TheVariants.{Push}
 use Rattle.program.specs.declared.Operand.{Operand}
-use Rattle.program.specs.declared.Operand.TheVariants as Operand
 use Rattle.program.specs.Command.{opcode, operand, operand_of, arguments_of, results_of}
 use Rattle.program.specs.Name.{letters}
 use Rattle.program.specs.Encode.{Fits, Writable, AllWritable, encode_command, encode}

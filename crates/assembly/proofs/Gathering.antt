@@ -17,7 +17,6 @@ use Rattle.program.specs.Decode.{Decoded, refused, accepted, refusal, command_li
 use Rattle.program.specs.Encode.{encode_command, encode_code, encode}
 use Rattle.program.proofs.Codes.{opcode_of-code_of}
 use Rattle.program.proofs.Encoding.{operand-length}
-use Rattle.assembly.specs.declared.line.Line.{Line}
 use Rattle.assembly.specs.declared.line.Line.TheVariants.{Is, Malformed, Outside}
 use Rattle.assembly.specs.Assembly as Text
 use Rattle.assembly.specs.Assembly.{lines_of, read_line, read_first, read_from, read_text, denied, given, result_of, assembled}

@@ -2,8 +2,8 @@
 -- Assumes nothing.
 use mathlib.Core.Path.{◌≡◌, refl, sym, ap, ◌∙◌}
 use mathlib.Core.Bool.{true, false}
-use mathlib.Core.List.{List, [], ◌∷◌}
-use Prim.Native.Nat.{ℕ, zero, suc, ◌+◌, ◌-◌, ◌<◌, ◌≤◌}
+use mathlib.Core.List.{List}
+use Prim.Native.Nat.{ℕ, suc, ◌+◌, ◌-◌, ◌<◌, ◌≤◌}
 use native.Mathlib.Omega.{arith}
 use lib.ListN.{length, take, drop, get_or, set}
 use lib.Dec.{leb}
@@ -12,7 +12,6 @@ use Rattle.word.specs.Choose.{choose}
 use Rattle.word.specs.Lay.{laid, laid_at}
 use Rattle.word.proofs.Lay.{laid_at-zero, laid_at-nil, laid_at-cons, length-laid}
 use Rattle.assembly.specs.declared.Written.{Written}
-use Rattle.assembly.specs.declared.Written.TheVariants as Written
 use Rattle.assembly.specs.Assembly.{Result, denied, given, answer, left}
 use Rattle.assembly.specs.Space.{refused_at, measured, Holding, Held, handed_answer, handed_out}
 

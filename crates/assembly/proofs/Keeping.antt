@@ -15,7 +15,6 @@ use Rattle.word.specs.Lay.{laid_at}
 use Rattle.word.proofs.Lay.{laid_at-nil, laid_at-cons, laid_at-snoc, laid_at-both}
 use Rattle.word.proofs.Laws.Digits.{digits-length, digits_append}
 use Rattle.word.proofs.Laws.Field.{pow-bytes}
-use Rattle.assembly.specs.declared.line.Letters.{Letters}
 use Rattle.assembly.specs.Scan.{letters_to, letters_from}
 
 -- within a list no default is needed

@@ -15,7 +15,6 @@ use Rattle.word.specs.Exact.{exactly}
 use Rattle.word.specs.Text.{numeral_value}
 use Rattle.word.specs.Numeral.{is_digit, signed_by, leading_digits, decimal_to, decimal_from, decimal_at}
 use Rattle.word.specs.declared.exact.Exact.{Exact}
-use Rattle.word.specs.declared.exact.Exact.TheVariants as Exact
 use Rattle.word.specs.declared.numeral.Decimal.{Decimal}
 use Rattle.word.specs.declared.numeral.Decimal.TheVariants.{Is, Beyond, Missing}
 use Rattle.program.specs.declared.Operand.{Operand}

@@ -15,7 +15,6 @@ use Rattle.word.specs.Wrap.{Signed}
 use Rattle.word.proofs.Bool.{never, and_first, and_second}
 use Rattle.program.specs.declared.Command.{Command}
 use Rattle.program.specs.declared.Operand.{Operand}
-use Rattle.program.specs.declared.Operand.TheVariants as Operand
 use Rattle.program.specs.declared.Operand.TheVariants.{Counts}
 use Rattle.program.specs.Command.{Opcode, operand_of, width, counts, arguments_of, results_of, is_counts, in_range, opcode, operand, command}
 use Rattle.program.specs.Name.{letters, opcode_named}

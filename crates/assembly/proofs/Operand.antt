@@ -14,7 +14,6 @@ use Rattle.word.specs.Exact.{is_signed, exactly}
 use Rattle.word.specs.Number.{index_of}
 use Rattle.word.specs.Numeral.{number_of, decimal_to, decimal_at}
 use Rattle.word.specs.declared.exact.Exact.{Exact}
-use Rattle.word.specs.declared.exact.Exact.TheVariants as Exact
 use Rattle.word.specs.declared.number.Index.TheVariants as Index
 use Rattle.word.specs.declared.numeral.Decimal.{Decimal}
 use Rattle.word.specs.declared.numeral.Decimal.TheVariants.{Is, Beyond, Missing}

@@ -17,7 +17,7 @@ use Rattle.program.specs.declared.Command.{Command}
 use Rattle.program.specs.declared.Fetched.TheVariants.{Is, Unknown, Cut}
 use Rattle.program.specs.declared.Checked.TheVariants as Checked
 use Rattle.program.specs.declared.Refusal.{Refusal}
-use Rattle.program.specs.Command.{Opcode, opcode_of, code_of, opcode, operand, command}
+use Rattle.program.specs.Command.{Opcode, opcode_of, code_of, operand, command}
 use Rattle.program.specs.Decode.{Decoded, refused, accepted, refusal, prepend, decode_from, decode, command_limit, check_answer, permits}
 use Rattle.program.specs.Fetch.{fetch_of}
 use Rattle.program.proofs.Checking.{remaining, remaining-end, remaining-limit}

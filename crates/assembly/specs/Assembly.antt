@@ -14,7 +14,6 @@ use Rattle.program.specs.Name.{letters, opcode_named}
 use Rattle.program.specs.Decode.{Decoded, refused, accepted, refusal, prepend, decode, command_limit}
 use Rattle.program.specs.Encode.{encode}
 use Rattle.assembly.specs.declared.Written.{Written}
-use Rattle.assembly.specs.declared.Written.TheVariants as Written
 
 -- ════════════════════════════════════════════════════════════════════════════════════════════
 -- A text is lines, a line is words

@@ -3,11 +3,9 @@ use Rattle.std.specs.Prelude.{ℕ, suc, ◌+◌, ◌*◌, ◌^◌, ◌≤◌, Li
 use Rattle.word.specs.Choose.{choose}
 use Rattle.word.specs.Numeral.{decimal_at}
 use Rattle.word.specs.declared.numeral.Decimal.{Decimal}
-use Rattle.word.specs.declared.numeral.Decimal.TheVariants as Decimal
 use Rattle.program.specs.declared.Operand.{Operand}
 use Rattle.program.specs.declared.Operand.TheVariants.{Signed, Page, Counts}
 use Rattle.program.specs.declared.Shape.{Shape}
-use Rattle.program.specs.declared.Shape.TheVariants as Shape
 use Rattle.program.specs.Command.{opcode_of, code_of, width, operand_width, counts, opcode, operand}
 use Rattle.program.specs.Fetch.{shape_of, takes_of}
 use Rattle.program.specs.Name.{code_named}

@@ -12,7 +12,6 @@ use Rattle.program.specs.Command.{Opcode, operand_of, operand_width, arguments_o
 use Rattle.program.specs.Name.{letters}
 use Rattle.program.specs.Decode.{Decoded, refused, accepted, refusal, decode, command_limit, check_answer}
 use Rattle.assembly.specs.declared.Written.{Written}
-use Rattle.assembly.specs.declared.Written.TheVariants as Written
 use Rattle.assembly.specs.declared.listing.Numbers.{Numbers}
 use Rattle.assembly.specs.declared.listing.Numbers.TheVariants.{None, One, Two}
 use Rattle.assembly.specs.Assembly.{Result, denied, given, newline, space, operand_text, listing}

@@ -1,5 +1,6 @@
 // Sheets in text (request U3): a text is read into a sheet, and a sheet is listed as a text. Read specs/Assembly.antt first.
 #![tactic(auto)]
+
 mod line;
 mod listing;
 mod reading;
