@@ -2,6 +2,7 @@
 // specs/Space.antt of `handler` first: `handle` is its `handle_space`. specs/Words.antt says how the code's words stand for the kernel's
 // stack and effects.
 #![tactic(auto)]
+
 ghost use Rattle.std.specs.Prelude.{◌≡◌, ◌≤◌, ◌<◌, ◌^◌, List, ℤ, pos, length};
 ghost use Rattle.handler.specs.Kernel.{or_word, Load, Store, Dup, Swap, Jump, Push, Bnz};
 ghost use Rattle.handler.specs.Space.{known, handle_space};

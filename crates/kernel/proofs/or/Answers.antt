@@ -2,12 +2,8 @@
 -- Assumes nothing.
 use Rattle.word.proofs.Laws.Word.{signed-to_z, residue-of_z}
 use Rattle.handler.specs.Kernel.{or_word}
-use Rattle.kernel.proofs.or.Statement.{statement}
-use Rattle.kernel.proofs.or.Tie as tie
+use Rattle.kernel.proofs.or.Goals as goal
 
-returns : tie.Need-returns
+pub returns : goal.returns
 unfolding or_word
 returns c = rw (residue-of_z c.args.a c.ranges.a.sfits, residue-of_z c.args.b c.ranges.b.sfits, signed-to_z)
-
-pub or-spec : {M : Type 1} → statement M
-or-spec = tie.close (tie.spec returns)
