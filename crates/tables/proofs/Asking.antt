@@ -15,7 +15,6 @@ use Rattle.tables.specs.declared.Labels.{Labels}
 use Rattle.tables.specs.declared.Verdict.{Verdict}
 use Rattle.tables.specs.declared.Checked.TheVariants as Checked
 use Rattle.tables.specs.declared.RuleRead.{RuleRead}
-use Rattle.tables.specs.declared.RuleRead.TheVariants as RuleRead
 use Rattle.policy.specs.Expression.{Rule, Table}
 use Rattle.policy.specs.Evaluate.{eval_rule, evaluate}
 use Rattle.policy.specs.Read.{Read, fault, found, prepend, rule_count, read_rules, ReadTable, refused, table, whole, whole_if, table_if}

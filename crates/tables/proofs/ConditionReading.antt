@@ -8,14 +8,10 @@ use native.Mathlib.Omega.{arith}
 use lib.ListN.{length, get_or}
 use Rattle.machine.specs.Rule.{Key}
 use Rattle.policy.specs.declared.Token.{Token}
-use Rattle.policy.specs.declared.Token.TheVariants as Token
 use Rattle.tables.specs.declared.expression.Test.{Test}
-use Rattle.tables.specs.declared.expression.Test.TheVariants as Test
 use Rattle.tables.specs.declared.expression.TwoLabels.{TwoLabels}
 use Rattle.tables.specs.declared.expression.ConditionRead.{ConditionRead}
-use Rattle.tables.specs.declared.expression.ConditionRead.TheVariants as ConditionRead
 use Rattle.tables.specs.declared.expression.TwoConditions.{TwoConditions}
-use Rattle.tables.specs.declared.expression.TwoConditions.TheVariants as TwoConditions
 use Rattle.policy.specs.Expression.{LabelExpr, Condition}
 use Rattle.policy.specs.Expression as Expression
 use Rattle.policy.specs.Evaluate.{eval_condition}

@@ -12,13 +12,9 @@ use Rattle.program.specs.Command.{Opcode}
 use Rattle.machine.specs.Rule.{Key}
 use Rattle.tables.specs.declared.Labels.{Labels}
 use Rattle.policy.specs.declared.Token.{Token}
-use Rattle.policy.specs.declared.Token.TheVariants as Token
 use Rattle.tables.specs.declared.expression.Leaf.{Leaf}
-use Rattle.tables.specs.declared.expression.Leaf.TheVariants as Leaf
 use Rattle.tables.specs.declared.expression.LabelRead.{LabelRead}
-use Rattle.tables.specs.declared.expression.LabelRead.TheVariants as LabelRead
 use Rattle.tables.specs.declared.expression.TwoLabels.{TwoLabels}
-use Rattle.tables.specs.declared.expression.TwoLabels.TheVariants as TwoLabels
 use Rattle.policy.specs.Expression.{LabelExpr}
 use Rattle.policy.specs.Expression as Expression
 use Rattle.policy.specs.Token.{token_of}

@@ -9,11 +9,9 @@ use native.Mathlib.Omega.{arith}
 use lib.IntN.{ℤ}
 use lib.Dec.{leb}
 use Rattle.word.specs.declared.number.Natural.{Natural}
-use Rattle.word.specs.declared.number.Natural.TheVariants as Natural
 use Rattle.word.specs.Number.{natural_of}
 use Rattle.word.proofs.Bool.{never}
 use Rattle.label.specs.declared.Stored.{Stored}
-use Rattle.label.specs.declared.Stored.TheVariants as Stored
 use Rattle.label.specs.Word.{stored}
 use Rattle.program.specs.declared.Refusal.{Refusal}
 use Rattle.program.specs.declared.Operand.{Operand}
@@ -25,7 +23,6 @@ use Rattle.tables.specs.declared.Labels.{Labels}
 use Rattle.tables.specs.declared.Verdict.{Verdict}
 use Rattle.tables.specs.declared.Checked.TheVariants as Checked
 use Rattle.tables.specs.declared.row.Found.{Found}
-use Rattle.tables.specs.declared.row.Found.TheVariants as Found
 use Rattle.policy.specs.Evaluate.{evaluate}
 use Rattle.policy.specs.Read.{rule_count, ReadTable, refused, table}
 use Rattle.tables.specs.Value.{input_if, key_of}

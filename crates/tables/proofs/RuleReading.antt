@@ -13,12 +13,9 @@ use Rattle.program.specs.declared.Shape.TheVariants as Shape
 use Rattle.program.specs.Fetch.{shape_of}
 use Rattle.machine.specs.Rule.{Key, allowed_if}
 use Rattle.tables.specs.declared.expression.LabelRead.{LabelRead}
-use Rattle.tables.specs.declared.expression.LabelRead.TheVariants as LabelRead
 use Rattle.tables.specs.declared.expression.ConditionRead.{ConditionRead}
-use Rattle.tables.specs.declared.expression.ConditionRead.TheVariants as ConditionRead
 use Rattle.tables.specs.declared.Labels.{Labels}
 use Rattle.tables.specs.declared.RuleRead.{RuleRead}
-use Rattle.tables.specs.declared.RuleRead.TheVariants as RuleRead
 use Rattle.policy.specs.Expression.{LabelExpr, Condition}
 use Rattle.policy.specs.Evaluate.{eval_label, eval_condition}
 use Rattle.policy.specs.Read.{Read, fault, found, and_then, read_label, read_condition, depth_limit, result_if, read_rule_with}

@@ -15,9 +15,7 @@ use Rattle.word.proofs.Bool.{never}
 use Rattle.tables.specs.declared.Labels.{Labels}
 use Rattle.tables.specs.declared.Verdict.{Verdict}
 use Rattle.tables.specs.declared.Checked.{Checked}
-use Rattle.tables.specs.declared.Checked.TheVariants as Checked
 use Rattle.tables.specs.declared.RuleRead.{RuleRead}
-use Rattle.tables.specs.declared.RuleRead.TheVariants as RuleRead
 use Rattle.policy.specs.Expression.{Rule, Table}
 use Rattle.policy.specs.Evaluate.{eval_rule}
 use Rattle.policy.proofs.Ruled.{ruled-code}

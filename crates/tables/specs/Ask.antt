@@ -5,11 +5,8 @@ use Rattle.program.specs.Command.{Opcode, supplies, has_result, rule_number}
 use Rattle.machine.specs.Rule as Rules
 use Rattle.tables.specs.declared.Labels.{Labels}
 use Rattle.tables.specs.declared.Verdict.{Verdict}
-use Rattle.tables.specs.declared.Verdict.TheVariants as Verdict
 use Rattle.tables.specs.declared.Checked.{Checked}
-use Rattle.tables.specs.declared.Checked.TheVariants as Checked
 use Rattle.tables.specs.declared.RuleRead.{RuleRead}
-use Rattle.tables.specs.declared.RuleRead.TheVariants as RuleRead
 use Rattle.policy.specs.Expression.{Rule}
 use Rattle.policy.specs.Evaluate.{eval_rule, evaluate}
 use Rattle.policy.specs.Read.{Read, fault, found, read_rule_with, ReadTable, refused, table}

@@ -3,14 +3,11 @@ use Rattle.std.specs.Prelude.{ℕ, Bool, true, false, ◌&&◌, List, ℤ, leb}
 use Rattle.std.proofs.Math.Option.{Option}
 use Rattle.label.specs.declared.Label.{Label}
 use Rattle.label.specs.declared.Stored.{Stored}
-use Rattle.label.specs.declared.Stored.TheVariants as Stored
 use Rattle.label.specs.Label.{bottom}
 use Rattle.label.specs.Word.{stored}
 use Rattle.program.specs.Command.{Opcode}
 use Rattle.tables.specs.declared.Verdict.{Verdict}
-use Rattle.tables.specs.declared.Verdict.TheVariants as Verdict
 use Rattle.tables.specs.declared.row.Found.{Found}
-use Rattle.tables.specs.declared.row.Found.TheVariants as Found
 use Rattle.tables.specs.declared.row.Inspected.{Inspected}
 use Rattle.tables.specs.Value.{label_with}
 use Rattle.tables.specs.Ask.{check_answer}

@@ -6,19 +6,12 @@ use Rattle.program.specs.Command.{Opcode}
 use Rattle.machine.specs.Rule as Rule
 use Rattle.tables.specs.declared.Labels.{Labels}
 use Rattle.policy.specs.declared.Token.{Token}
-use Rattle.policy.specs.declared.Token.TheVariants as Token
 use Rattle.tables.specs.declared.expression.Leaf.{Leaf}
-use Rattle.tables.specs.declared.expression.Leaf.TheVariants as Leaf
 use Rattle.tables.specs.declared.expression.Test.{Test}
-use Rattle.tables.specs.declared.expression.Test.TheVariants as Test
 use Rattle.tables.specs.declared.expression.LabelRead.{LabelRead}
-use Rattle.tables.specs.declared.expression.LabelRead.TheVariants as LabelRead
 use Rattle.tables.specs.declared.expression.TwoLabels.{TwoLabels}
-use Rattle.tables.specs.declared.expression.TwoLabels.TheVariants as TwoLabels
 use Rattle.tables.specs.declared.expression.ConditionRead.{ConditionRead}
-use Rattle.tables.specs.declared.expression.ConditionRead.TheVariants as ConditionRead
 use Rattle.tables.specs.declared.expression.TwoConditions.{TwoConditions}
-use Rattle.tables.specs.declared.expression.TwoConditions.TheVariants as TwoConditions
 use Rattle.policy.specs.Expression.{LabelExpr, Condition}
 use Rattle.policy.specs.Evaluate.{eval_label, eval_condition}
 use Rattle.policy.specs.Read.{Read, fault, found, read_two, read_label, read_condition, result_if}

@@ -1,6 +1,7 @@
 // Rule tables in code: check 6, what a table says when it is asked, and check 7. Read the definitions of `policy` first; in specs/ Value,
 // Ask and RowCode say what the code reads of a table and of a row.
 #![tactic(auto)]
+
 pub mod expression;
 pub mod row;
 
