@@ -1,5 +1,6 @@
 // The plain engine: document 01's machine under the standard rules, on lent memory. Read specs/Plain.antt first.
 #![tactic(auto)]
+
 mod command;
 mod run;
 
