@@ -11,7 +11,7 @@ use policy::row::Cache;
 use step::find::Inputs;
 
 // The five words that a command asks with: code, P, L1, L2, L3; missing inputs are -1.
-#[derive(Drop)]
+#[derive(Clone, Copy)]
 pub struct Five {
     pub code: i64,
     pub pc: i64,
