@@ -6,15 +6,12 @@ use Prim.Native.Nat.{ℕ, zero, suc, ◌+◌, ◌-◌, ◌*◌, ◌^◌, ◌<◌
 use native.Mathlib.Omega.{arith}
 use lib.ListN.{length, get_or, length-append}
 use Rattle.policy.specs.declared.Token.{Token}
-use Rattle.policy.specs.declared.Token.TheVariants as Token
 use Rattle.tables.specs.declared.expression.Test.{Test}
-use Rattle.tables.specs.declared.expression.Test.TheVariants as Test
 use Rattle.policy.specs.Token.{token_of, token_at}
 use Rattle.tables.specs.Value.{test_of}
 use Rattle.policy.specs.Read.{depth_limit}
 use Rattle.policy.proofs.Tokens.{token_at-byte, token_at-missing}
 use Rattle.translator.specs.declared.Part.{Part}
-use Rattle.translator.specs.declared.Part.TheVariants as Part
 use Rattle.translator.specs.Emit.{piece, part_of, label_piece, label_code, condition_piece, condition_code}
 use Rattle.translator.specs.Emit.{answer_code, guarded_code, rule_piece, rule_code}
 

@@ -15,7 +15,6 @@ use Rattle.program.specs.Command.{Opcode, ruled, supplies, has_result}
 use Rattle.program.specs.declared.Refusal.{Refusal}
 use Rattle.tables.specs.declared.Checked.TheVariants as Checked
 use Rattle.policy.specs.declared.Token.{Token}
-use Rattle.policy.specs.declared.Token.TheVariants as Token
 use Rattle.policy.specs.Expression.{LabelExpr, empty, input1, input2, input3, join, Condition, flows, always, both, either, Rule, Table}
 use Rattle.policy.specs.Token.{token_of, token_at}
 use Rattle.tables.specs.Value.{test_of}

@@ -3,14 +3,11 @@
 use Rattle.std.specs.Prelude.{ℕ, zero, suc, ◌+◌, ◌-◌, ◌*◌, ◌^◌, ◌<◌, ◌≤◌, ◌≡◌, List, [], ◌∷◌, ◌++◌, ℤ, pos, negsuc, length, set, get_or}
 use Rattle.program.specs.Command.{Opcode, opcodes, rule_number}
 use Rattle.policy.specs.declared.Token.{Token}
-use Rattle.policy.specs.declared.Token.TheVariants as Token
 use Rattle.tables.specs.declared.expression.Test.{Test}
-use Rattle.tables.specs.declared.expression.Test.TheVariants as Test
 use Rattle.policy.specs.Token.{token_at}
 use Rattle.tables.specs.Value.{test_of}
 use Rattle.policy.specs.Read.{depth_limit, rule_count}
 use Rattle.translator.specs.declared.Part.{Part}
-use Rattle.translator.specs.declared.Part.TheVariants as Part
 use Rattle.translator.specs.declared.Mark.{Mark}
 use Rattle.handler.specs.Kernel.{Instruction, Sub, Or, Load, Store, Dup, Jump, Ret, Push, Bnz}
 use Rattle.handler.specs.Translate.{dispatch, handler_with}

@@ -1,6 +1,7 @@
 // The translator: from a rule table's bytes into the handler space. Read handler/specs/Translate.antt first; in specs/ Emit says what the
 // code stores.
 #![tactic(auto)]
+
 ghost use Rattle.std.specs.Prelude.{◌≡◌, ◌+◌, ◌*◌, ◌≤◌, ◌^◌, length};
 ghost use Rattle.program.specs.Command.{opcodes};
 ghost use Rattle.policy.specs.Read.{read_table};
