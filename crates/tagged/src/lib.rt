@@ -1,6 +1,7 @@
 // The tag engine: document 01's machine with its rules as data. Read in tagging/specs/: Consult; then in specs/: Ruling, Start, Tagged.
 // What is shown of it is said in tagging/specs/Claim.antt and in claims.
 #![tactic(auto)]
+
 mod consult;
 mod run;
 mod start;
