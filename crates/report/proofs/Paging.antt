@@ -180,11 +180,11 @@ module _ (job old : List ℕ) (n : ℕ) (new : List ℕ) where
 -- ════════════════════════════════════════════════════════════════════════════════════════════
 
 module _ (job old : List ℕ) where
-  pub page-short : length old < page_limit → (Outcome.Short ≡ page_answer job old) × (old ≡ page_out job old)
-  page-short h = rw (lt-ltb (length old) page_limit h) (refl, refl)
+  pub page-short : length old < page_limit → record { answer : Outcome.Short ≡ page_answer job old; out : old ≡ page_out job old }
+  page-short h = rw (lt-ltb (length old) page_limit h) (record { answer = refl; out = refl })
 
   pub page-written : page_limit ≤ length old → (n : ℕ) (new : List ℕ) → Written (page_of job) old 0 n new
-      → (Outcome.Written n ≡ page_answer job old) × (new ≡ page_out job old)
+      → record { answer : Outcome.Written n ≡ page_answer job old; out : new ≡ page_out job old }
   page-written h n new w =
       rw (le-ltb (length old) page_limit h)
-      (ap Outcome.Written (w.end ∙ zero-add (length (page_of job))), w.space ∙ laid_at-zero (page_of job) old)
+      (record { answer = ap Outcome.Written (w.end ∙ zero-add (length (page_of job))); out = w.space ∙ laid_at-zero (page_of job) old })

@@ -51,14 +51,17 @@ fitted-take (n ∷ new) (y ∷ old) h = ap (λ (l : List ℤ). n ∷ l) (fitted-
 -- what the reader answers and leaves in the two runs
 abbrev pub Answered : List ℕ → (values₀ labels₀ : List ℤ) → Job → (values labels : List ℤ) → Type 0
 Answered s values₀ labels₀ r values labels =
-    (r ≡ job_answer (read_job s))
-    × ((values ≡ fitted (read_job s).heard.values values₀) × (labels ≡ fitted (read_job s).heard.labels labels₀))
+    record {
+      answer : r ≡ job_answer (read_job s);
+      values : values ≡ fitted (read_job s).heard.values values₀;
+      labels : labels ≡ fitted (read_job s).heard.labels labels₀;
+    }
 
 -- the length is tested first
 pub answered-long : (s : List ℕ) (values₀ labels₀ : List ℤ) → 65536 < length s
     → Answered s values₀ labels₀ (answer_of silence (bad 65536)) values₀ labels₀
 unfolding read_job
-answered-long s values₀ labels₀ h = rw (lt-leb (length s) 65536 h) (refl, (fitted_none values₀, fitted_none labels₀))
+answered-long s values₀ labels₀ h = rw (lt-leb (length s) 65536 h) (record { answer = refl; values = fitted_none values₀; labels = fitted_none labels₀ })
 
 -- read up to an offset: the cells so far, and what is left to read
 pub record Going (s : List ℕ) (values₀ labels₀ values labels : List ℤ) (at cells allowance reader : ℕ) : Type 0 where
@@ -103,13 +106,12 @@ module _ (s : List ℕ) (values₀ labels₀ values labels : List ℤ) (at cells
 
   -- nothing is left to read
   ends : (e : Ending) → reading heard e ≡ read_job s → Answered s values₀ labels₀ (answer_of heard e) values labels
-  ends e d = (
-    ap job_answer d,
-    (
-      g.stored ∙ ap (λ (r : Reading). fitted r.heard.values values₀) d,
-      g.marked ∙ ap (λ (r : Reading). fitted r.heard.labels labels₀) d,
-    ),
-  )
+  ends e d =
+      record {
+        answer = ap job_answer d;
+        values = g.stored ∙ ap (λ (r : Reading). fitted r.heard.values values₀) d;
+        labels = g.marked ∙ ap (λ (r : Reading). fitted r.heard.labels labels₀) d;
+      }
 
   over : (n : ℕ) → length s ≤ at → read_from n s at heard ≡ reading heard (bad (length s))
   unfolding read_from

@@ -1,5 +1,6 @@
 // The page program's work: from the bytes of a job to the bytes of a page. Read in specs/: Job, Lines, Page.
 #![tactic(auto)]
+
 pub mod job;
 mod print;
 
