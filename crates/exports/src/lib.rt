@@ -1,5 +1,6 @@
 // What C and Rust link: the functions of include/luvrodan.h over the proved engines. Read specs/Exported.antt first.
 #![tactic(auto)]
+
 mod clearance;
 mod result;
 mod row;
