@@ -2,7 +2,7 @@
 ghost use Rattle.std.specs.Prelude.{◌≡◌, ◌<◌, ◌≤◌, length, drop, get_or};
 ghost use Rattle.assembly.specs.Scan.{letters_from, ends_at, number_at, spaced_at, counts_after, operand_at, NextWithin};
 ghost use Rattle.assembly.specs.Scan.{Few, shape_at, line_of};
-ghost use Rattle.assembly.specs.Scan.{counted as countedOf};
+ghost use Rattle.assembly.specs.Scan.{counted as counted_of};
 
 use program::{Operand, Shape};
 use word::numeral::Decimal;
@@ -98,7 +98,7 @@ fn second(text: &[u8], first: Decimal) -> Decimal
 
 // And of which the second is read.
 fn counted(arguments: i64, results: Decimal) -> Decimal
-    ensures { result ≡ countedOf arguments results }
+    ensures { result ≡ counted_of arguments results }
 {
     match results {
         Decimal::Missing => Decimal::Missing,

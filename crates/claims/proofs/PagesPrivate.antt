@@ -16,7 +16,6 @@ use Rattle.machine.specs.Atom.{Line}
 use Rattle.machine.specs.Claim.{keep, view, OneStartsOther}
 use Rattle.engine.specs.declared.Ran as Engine
 use Rattle.engine.specs.declared.Answer.{Answer}
-use Rattle.engine.specs.declared.Answer.TheVariants as Answer
 use Rattle.engine.specs.Memory.{all_cleared, Memory}
 use Rattle.engine.specs.Layout.{cells_of}
 use Rattle.engine.specs.Ended.{Ended, ended}

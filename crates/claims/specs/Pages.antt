@@ -8,7 +8,6 @@ use Rattle.machine.specs.Claim.{Alike, Start, OneStartsOther}
 use Rattle.step.specs.Lent.{Cells, cells}
 use Rattle.engine.specs.declared.Ran as Engine
 use Rattle.engine.specs.declared.Answer.{Answer}
-use Rattle.engine.specs.declared.Answer.TheVariants as Answer
 use Rattle.engine.specs.Layout.{cells_of}
 use Rattle.report.specs.Job.{Heard, Ending, sheet, read_job, sheet_of}
 use Rattle.report.specs.Job as Job

@@ -9,7 +9,6 @@ use Rattle.machine.specs.Step.{atom}
 use Rattle.step.specs.Lent.{cells}
 use Rattle.engine.specs.declared.Clearances.{Clearances}
 use Rattle.engine.specs.declared.Answer.{Answer}
-use Rattle.engine.specs.declared.Answer.TheVariants as Answer
 use Rattle.engine.specs.Memory.{output, all_cleared, Memory}
 use Rattle.engine.specs.Memory as Lent
 use Rattle.engine.specs.Ended.{Ended}

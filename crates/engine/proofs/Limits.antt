@@ -16,7 +16,6 @@ use Rattle.label.specs.Word.{stored}
 use Rattle.program.specs.declared.Command.{Command}
 use Rattle.program.specs.declared.Refusal.{Refusal}
 use Rattle.program.specs.declared.Checked.{Checked}
-use Rattle.program.specs.declared.Checked.TheVariants as Checked
 use Rattle.program.specs.Decode.{Decoded, refused, accepted, refusal, check_answer}
 use Rattle.engine.specs.declared.Clearances.{Clearances}
 use Rattle.engine.specs.declared.start.Limit.{Limit}

@@ -13,7 +13,6 @@ use Rattle.label.specs.declared.Stored.{Stored}
 use Rattle.label.specs.declared.Stored.TheVariants.{Of, Nothing}
 use Rattle.label.specs.Word.{stored}
 use Rattle.program.specs.declared.Operand.{Operand}
-use Rattle.program.specs.declared.Operand.TheVariants as Operand
 use Rattle.program.specs.Command.{opcode_of, operand_of, opcode}
 use Rattle.program.specs.Decode.{Decoded, refused, accepted, refusal, prepend, First, unknown, cut, whole}
 use Rattle.program.specs.Decode.{first_opcode, permits, check_of, decode_if, decode_first, decode_from, decode, command_limit}

@@ -13,7 +13,6 @@ use Rattle.step.specs.Lent.{lent}
 use Rattle.engine.specs.declared.Clearances.{Clearances}
 use Rattle.engine.specs.declared.Ran.{Ran}
 use Rattle.engine.specs.declared.Answer.{Answer}
-use Rattle.engine.specs.declared.Answer.TheVariants as Answer
 use Rattle.engine.specs.Memory.{Memory, memory, surroundings}
 use Rattle.engine.specs.Start.{given, none_own, start_of}
 use Rattle.engine.specs.Layout.{cell_words, cells_of, lines_laid, stack_after}

@@ -16,7 +16,6 @@ use Rattle.handler.specs.Claim.{Handles}
 use Rattle.engine.specs.declared.Clearances.{Clearances}
 use Rattle.engine.specs.declared.Ran.{Ran}
 use Rattle.engine.specs.declared.Answer.{Answer}
-use Rattle.engine.specs.declared.Answer.TheVariants as Answer
 use Rattle.engine.specs.Memory.{Memory}
 use Rattle.engine.specs.Ended.{Ended, ended, directly, SameEnd}
 use Rattle.plain.specs.Plain.{plain}

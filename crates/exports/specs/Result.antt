@@ -3,13 +3,11 @@ use Rattle.std.specs.Prelude.{ℕ, pos}
 use Rattle.program.specs.declared.Refusal.{Refusal}
 use Rattle.stack.specs.declared.Machine.{Machine}
 use Rattle.engine.specs.declared.Answer.{Answer}
-use Rattle.engine.specs.declared.Answer.TheVariants as Answer
 use Rattle.report.specs.declared.Outcome.{Outcome}
 use Rattle.report.specs.declared.Outcome.TheVariants as Made
 use Rattle.report.specs.Page.{page_limit}
 use Rattle.exports.specs.declared.result.LuvrodanResult.{LuvrodanResult}
 use Rattle.assembly.specs.declared.Written.{Written}
-use Rattle.assembly.specs.declared.Written.TheVariants as Written
 use Rattle.exports.specs.declared.result.LuvrodanPageResult.{LuvrodanPageResult}
 use Rattle.exports.specs.declared.result.LuvrodanWritten.{LuvrodanWritten}
 

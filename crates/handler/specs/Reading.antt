@@ -4,7 +4,6 @@ use Rattle.std.specs.Prelude.{ℕ, ◌≤◌, List, [], ◌∷◌, pos}
 use Rattle.program.specs.Command.{Opcode, add, sub, pop, output, push, load, store, jump, bnz, call, ret, output_to, call_n, ret_v}
 use Rattle.machine.specs.Rule.{Input, present, missing, Key}
 use Rattle.policy.specs.Standard.{standard_table}
-use Rattle.policy.specs.Expression.{input1, input2, input3}
 use Rattle.policy.specs.Row.{key_row, fault_row}
 use Rattle.handler.specs.Kernel.{returned, denied, Result, handle}
 use Rattle.handler.specs.Translate.{translate}

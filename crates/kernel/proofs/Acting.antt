@@ -15,7 +15,6 @@ use mir.Val.{SFits}
 use lib.Dec.{ltb, eqb}
 use borrow.Author.Tests.{lt-ltb, le-ltb, ltb-true, ltb-false, eqb-true, eqb-false}
 use Rattle.word.specs.declared.number.Index.{Index}
-use Rattle.word.specs.declared.number.Index.TheVariants as Index
 use Rattle.word.specs.Number.{is_zero, index_if, index_of}
 use Rattle.word.specs.Wrap.{residue, add_wrap, sub_wrap}
 use Rattle.word.proofs.Bits.{index-found}

@@ -6,7 +6,6 @@ use Rattle.word.specs.Wrap.{add_wrap, sub_wrap}
 use Rattle.kernel.specs.declared.Whole.{Whole}
 use Rattle.kernel.specs.declared.Whole.TheVariants.{At, Below}
 use Rattle.kernel.specs.declared.How.{How}
-use Rattle.kernel.specs.declared.How.TheVariants as How
 use Rattle.kernel.specs.declared.Registers.{Registers}
 use Rattle.kernel.specs.declared.Stepped.{Stepped}
 use Rattle.kernel.specs.declared.Outcome as Ended

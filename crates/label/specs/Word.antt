@@ -1,11 +1,9 @@
 -- The label that a word stores.
 use Rattle.std.specs.Prelude.{ℕ, ◌%◌, ◌^◌, Bool, true, false, ℤ, ltb}
 use Rattle.word.specs.declared.number.Natural.{Natural}
-use Rattle.word.specs.declared.number.Natural.TheVariants as Natural
 use Rattle.word.specs.Wrap.{residue}
 use Rattle.word.specs.Number.{natural_of}
 use Rattle.label.specs.declared.Stored.{Stored}
-use Rattle.label.specs.declared.Stored.TheVariants as Stored
 use Rattle.label.specs.Label.{principals}
 
 abbrev pub stored_if : Bool → ℕ → Stored

@@ -1,5 +1,5 @@
 -- One step: what a command needs, what the policy says of it, what it does.
-use Rattle.std.specs.Prelude.{ℕ, zero, suc, ◌+◌, Bool, true, false, List, [], ◌∷◌, ◌++◌, ℤ, pos, negsuc, ◌+ℤ◌, ◌-ℤ◌, length, set, ltb}
+use Rattle.std.specs.Prelude.{ℕ, zero, suc, Bool, true, false, List, [], ◌∷◌, ◌++◌, ℤ, pos, negsuc, ◌+ℤ◌, ◌-ℤ◌, length, set, ltb}
 use Rattle.std.proofs.Math.Option.{Option, none, some}
 use Rattle.word.specs.Exact.{is_signed}
 use Rattle.program.specs.declared.Command.{Command}

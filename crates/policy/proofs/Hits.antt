@@ -12,7 +12,6 @@ use borrow.Author.Tests.{lt-ltb, eqb-true, eq-eqb}
 use Rattle.word.specs.Number.{is_zero}
 use Rattle.label.specs.Label.{principals, InRange}
 use Rattle.label.specs.declared.Stored.{Stored}
-use Rattle.label.specs.declared.Stored.TheVariants as Stored
 use Rattle.label.specs.Word.{stored_if, stored}
 use Rattle.program.specs.Command.{Opcode, code_of, supplies}
 use Rattle.program.proofs.Codes.{opcode_of-code_of, code-least}

@@ -2,10 +2,8 @@
 use Rattle.std.specs.Prelude.{ℕ, zero, suc, Bool, true, false, ◌&&◌, ◌||◌, List, [], ◌∷◌, ℤ, pos, negsuc, leb, eqb, get_or}
 use Rattle.std.proofs.Math.Option.{Option, none, some}
 use Rattle.word.specs.declared.number.Natural.{Natural}
-use Rattle.word.specs.declared.number.Natural.TheVariants as Natural
 use Rattle.word.specs.Number.{is_zero, natural_of}
 use Rattle.label.specs.declared.Stored.{Stored}
-use Rattle.label.specs.declared.Stored.TheVariants as Stored
 use Rattle.label.specs.Word.{stored}
 use Rattle.program.specs.Command.{Opcode, opcode_of, code_of, supplies}
 use Rattle.machine.specs.Rule.{Input, present, missing, input_word, Key, Verdict, denied, allowed}

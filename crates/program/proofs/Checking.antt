@@ -11,7 +11,6 @@ use lib.ListN.{length, drop, get_or, drop_of_length-le}
 use lib.Seq.{drop-cons}
 use Rattle.program.specs.declared.Command.{Command}
 use Rattle.program.specs.declared.Checked.{Checked}
-use Rattle.program.specs.declared.Checked.TheVariants as Checked
 use Rattle.program.specs.declared.Fetched.TheVariants.{Is, Unknown, Cut}
 use Rattle.program.specs.Decode.{Decoded, refused, accepted, refusal, prepend, decode_from, decode, command_limit, check_answer}
 use Rattle.program.specs.Command.{opcode_of}

@@ -4,7 +4,7 @@
 use mathlib.Core.Path.{◌≡◌, refl, ap, ◌∙◌}
 use mathlib.Core.Bool.{Bool, true, false}
 use mathlib.Core.List.{List, [], ◌∷◌}
-use Prim.Native.Nat.{ℕ, zero, suc, ◌+◌, ◌<◌, ◌≤◌, ◌-◌, ◌*◌}
+use Prim.Native.Nat.{ℕ, zero, suc, ◌+◌, ◌<◌, ◌≤◌, ◌*◌}
 use native.Mathlib.Nat.{zero-add, add-zero, add_comm}
 use native.Mathlib.Omega.{arith}
 use lib.IntN.{ℤ, pos}
@@ -23,7 +23,6 @@ use Rattle.word.proofs.Laws.Test.{leb-shift}
 use Rattle.word.proofs.Laws.Field.{bits_at-none, bits_at-cons, unsigned_at-whole, unsigned_at-cut}
 use Rattle.program.specs.declared.Command.{Command}
 use Rattle.program.specs.declared.Operand.{Operand}
-use Rattle.program.specs.declared.Operand.TheVariants as Operand
 use Rattle.program.specs.Command.{opcode_of, width, counts}
 use Rattle.program.specs.Decode.{First, unknown, cut, whole, counts_field, operand_at, first_opcode, Decoded, refused, accepted, prepend}
 use Rattle.program.specs.Decode.{permits, decode_if, decode_first, decode_from}

@@ -26,7 +26,6 @@ use Rattle.word.proofs.Laws.Wrap.{signed_range, residue-signed}
 use Rattle.word.proofs.Laws.Field as Field
 use Rattle.program.specs.declared.Command.{Command}
 use Rattle.program.specs.declared.Operand.{Operand}
-use Rattle.program.specs.declared.Operand.TheVariants as Operand
 use Rattle.program.specs.Command.{Opcode, opcode_of, code_of, operand_of, width, operand_width, is_page}
 use Rattle.program.specs.Command.{is_counts, counts, arguments_of, results_of, opcode, operand, command}
 use Rattle.program.specs.Decode.{First, unknown, cut, whole, operand_at, first_operand, first_opcode, Decoded, refused, accepted}

@@ -14,7 +14,6 @@ use lib.ListN.{length, drop, get_or, get_or-eq_default}
 use lib.Seq.{drop-cons, drop-drop}
 use borrow.Author.Tests.{lt-ltb, le-ltb, ltb-true, ltb-false}
 use Rattle.word.specs.declared.field.Field.{Field}
-use Rattle.word.specs.declared.field.Field.TheVariants as Field
 use Rattle.word.specs.Exact.{is_signed}
 use Rattle.word.specs.Digits.{digits_of}
 use Rattle.word.specs.Wrap.{residue, signed}
@@ -24,7 +23,6 @@ use Rattle.word.proofs.Laws.Field.{bits_at-none, bits_at-cons, signed_at-whole, 
 use Rattle.program.specs.declared.Fetched.{Fetched}
 use Rattle.program.specs.declared.Fetched.TheVariants.{Is, Unknown, Cut}
 use Rattle.program.specs.declared.Operand.{Operand}
-use Rattle.program.specs.declared.Operand.TheVariants as Operand
 use Rattle.program.specs.declared.Shape.TheVariants as Shape
 use Rattle.program.specs.Command.{Opcode, opcode_of, code_of, operand_of, width, operand_width, holds}
 use Rattle.program.specs.Command.{is_page, counts, arguments_of, results_of, command, opcode, operand}

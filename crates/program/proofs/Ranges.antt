@@ -16,7 +16,6 @@ use Rattle.word.proofs.Bool.{never}
 use Rattle.word.proofs.Laws.Exact.{signed_test, test-signed}
 use Rattle.word.proofs.Laws.Numeral.{numeral-length, digit_count-within}
 use Rattle.program.specs.declared.Operand.{Operand}
-use Rattle.program.specs.declared.Operand.TheVariants as Operand
 use Rattle.program.specs.Command.{Opcode, operand_of, width, operand_width, is_page, is_counts, holds, in_range}
 use Rattle.program.specs.Encode.{FitsBytes, Fits}
 use Rattle.program.proofs.Counting.{word-range}

@@ -9,7 +9,6 @@ use Rattle.program.specs.declared.Operand.{Operand}
 use Rattle.program.specs.declared.Operand.TheVariants.{Signed, Page, Counts}
 use Rattle.program.specs.declared.Refusal.{Refusal}
 use Rattle.program.specs.declared.Checked.{Checked}
-use Rattle.program.specs.declared.Checked.TheVariants as Checked
 use Rattle.program.specs.Command.{Opcode, opcode_of, operand_of, operand_width, is_page, is_counts, counts, opcode, operand, command}
 
 pub data Decoded : Type 0 where

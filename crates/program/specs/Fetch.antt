@@ -2,11 +2,8 @@
 use Rattle.std.specs.Prelude.{ℕ, ◌+◌, ◌*◌, ◌%◌, Bool, true, false, List, ℤ, pos, get_or}
 use Rattle.std.proofs.Math.Option.{Option, none, some}
 use Rattle.word.specs.declared.field.Field.{Field}
-use Rattle.word.specs.declared.field.Field.TheVariants as Field
 use Rattle.program.specs.declared.Operand.{Operand}
-use Rattle.program.specs.declared.Operand.TheVariants as Operand
 use Rattle.program.specs.declared.Shape.{Shape}
-use Rattle.program.specs.declared.Shape.TheVariants as Shape
 use Rattle.program.specs.declared.Fetched.{Fetched}
 use Rattle.program.specs.declared.Fetched.TheVariants.{Is, Unknown, Cut}
 use Rattle.program.specs.Command.{Opcode, opcode_of, operand_of, operand_width, in_range, supplies, has_result, rule_number}

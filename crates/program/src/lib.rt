@@ -7,7 +7,7 @@ pub mod names;
 ghost use Rattle.std.specs.Prelude.{◌≡◌, ◌+◌, ◌<◌, ◌≤◌, length, get_or};
 ghost use Rattle.program.specs.Decode.{decode, operand_at, check_answer};
 ghost use Rattle.program.specs.Command.{opcode_of, width, is_page, arguments_of, results_of, is_counts};
-ghost use Rattle.program.specs.Command.{counts as countsOf};
+ghost use Rattle.program.specs.Command.{counts as counts_of};
 ghost use Rattle.program.specs.declared.Operand.TheVariants.{Counts};
 ghost use Rattle.word.specs.Text.{put_answer, put_out};
 ghost use Rattle.program.specs.Encode.{encode_code};
@@ -217,7 +217,7 @@ pub fn results_of(word: i64) -> u64
 
 // The operand word of two counts: 16 for each argument, and the results; -1 where one of the two is out of range.
 pub fn counts(arguments: i64, results: i64) -> i64
-    ensures { result ≡ countsOf arguments results }
+    ensures { result ≡ counts_of arguments results }
 {
     let first = word::number::below(arguments, 16);
     match first {

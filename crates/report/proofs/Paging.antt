@@ -21,7 +21,6 @@ use Rattle.report.specs.declared.job.Item.TheVariants.{Cell, Allowance, Reader, 
 use Rattle.report.specs.declared.job.Job.TheVariants as Job
 use Rattle.report.specs.declared.job.Said.{Said}
 use Rattle.report.specs.declared.Outcome.{Outcome}
-use Rattle.report.specs.declared.Outcome.TheVariants as Outcome
 use Rattle.report.specs.Job.{Heard, silence, with_cell, with_allowance, with_reader, Ending, bad, sheet, Reading, reading}
 use Rattle.report.specs.Job.{item_at, follow, read_from, read_job, sheet_from, sheet_of, answer_of, job_answer, fitted}
 use Rattle.report.specs.Lines.{job_text}

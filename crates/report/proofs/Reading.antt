@@ -11,7 +11,6 @@ use Rattle.label.specs.declared.Label.{Label}
 use Rattle.report.specs.declared.job.Item.{Item}
 use Rattle.report.specs.declared.job.Item.TheVariants.{Cell, Allowance, Reader, Sheet, Bad}
 use Rattle.report.specs.declared.job.Job.{Job}
-use Rattle.report.specs.declared.job.Job.TheVariants as Job
 use Rattle.report.specs.Job.{Heard, silence, Ending, bad, sheet, Reading, reading}
 use Rattle.report.specs.Job.{item_at, follow, read_from, read_job, answer_of, job_answer, fitted}
 

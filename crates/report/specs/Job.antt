@@ -1,15 +1,12 @@
 -- Reading a job, as document 01's page program does: each command from the left.
 use Rattle.std.specs.Prelude.{ℕ, zero, suc, ◌+◌, List, [], ◌∷◌, ◌++◌, ℤ, pos, nat_abs, length, drop, get_or, ltb, leb, eqb}
 use Rattle.word.specs.declared.field.Field.{Field}
-use Rattle.word.specs.declared.field.Field.TheVariants as Field
 use Rattle.word.specs.Field.{unsigned_at, signed_at}
 use Rattle.word.specs.Choose.{choose}
 use Rattle.report.specs.declared.job.Unsigned.{Unsigned}
-use Rattle.report.specs.declared.job.Unsigned.TheVariants as Unsigned
 use Rattle.report.specs.declared.job.Item.{Item}
 use Rattle.report.specs.declared.job.Item.TheVariants.{Cell, Allowance, Reader, Sheet, Bad}
 use Rattle.report.specs.declared.job.Job.{Job}
-use Rattle.report.specs.declared.job.Job.TheVariants as Job
 
 -- ════════════════════════════════════════════════════════════════════════════════════════════
 -- One command of a job

@@ -12,7 +12,6 @@ use Rattle.policy.specs.Standard.{standard_bytes}
 use Rattle.tagging.specs.Consult.{Tag}
 use Rattle.tagged.specs.Tagged.{Left, tagged}
 use Rattle.report.specs.declared.Outcome.{Outcome}
-use Rattle.report.specs.declared.Outcome.TheVariants as Outcome
 use Rattle.report.specs.Job.{Heard, Ending, bad, sheet, read_job}
 use Rattle.report.specs.Lines.{job_text, refused_text, lines_text}
 

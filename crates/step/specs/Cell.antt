@@ -5,9 +5,7 @@ use Rattle.word.specs.declared.number.Index.TheVariants.{At, Outside}
 use Rattle.word.specs.Number.{index_of}
 use Rattle.label.specs.Word.{low_label}
 use Rattle.step.specs.declared.cell.Held.{Held}
-use Rattle.step.specs.declared.cell.Held.TheVariants as Held
 use Rattle.step.specs.declared.cell.Content.{Content}
-use Rattle.step.specs.declared.cell.Content.TheVariants as Content
 use Rattle.step.specs.Lent.{Cells, cells}
 
 -- the cell that an address names, or none

@@ -4,7 +4,6 @@ use Rattle.word.specs.Choose.{choose}
 use Rattle.word.specs.Number.{is_zero}
 use Rattle.word.specs.Wrap.{add_wrap}
 use Rattle.word.specs.declared.exact.Exact.{Exact}
-use Rattle.word.specs.declared.exact.Exact.TheVariants as Exact
 use Rattle.word.specs.Exact.{exactly}
 use Rattle.program.specs.Command.{arguments_of, results_of}
 use Rattle.stack.specs.declared.Machine.{Machine}

@@ -5,7 +5,6 @@ use Rattle.word.specs.Choose.{choose}
 use Rattle.word.specs.Exact.{exactly}
 use Rattle.word.specs.Text.{numeral_value}
 use Rattle.word.specs.declared.exact.Exact.{Exact}
-use Rattle.word.specs.declared.exact.Exact.TheVariants as Exact
 use Rattle.word.specs.declared.numeral.Decimal.{Decimal}
 use Rattle.word.specs.declared.numeral.Decimal.TheVariants.{Is, Beyond, Missing}
 use Rattle.word.specs.declared.numeral.Digits.{Digits}

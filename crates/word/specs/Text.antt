@@ -2,7 +2,6 @@
 use Rattle.std.specs.Prelude.{ℕ, zero, suc, ◌+◌, ◌-◌, ◌/◌, Bool, true, false, List, [], ◌∷◌, map, reverse, length, ℤ, pos, negsuc, nat_le, nat_lt}
 use Prim.Native.Char.{code}
 use Prim.Native.String.{String}
-use Prim.Native.String as String
 use Rattle.word.specs.Digits.{digits_of, value_of}
 use Rattle.word.specs.Lay.{laid_at}
 use Rattle.word.specs.declared.text.Put.{Put}

@@ -10,7 +10,6 @@ use lib.ListN.{length}
 use lib.Dec.{eqb}
 use borrow.Author.Tests.{lt-ltb, le-ltb}
 use Rattle.word.specs.declared.number.Index.{Index}
-use Rattle.word.specs.declared.number.Index.TheVariants as Index
 use Rattle.word.specs.Number.{index_of}
 use Rattle.machine.specs.Atom.{Atom, Entry, value, frame}
 use Rattle.machine.specs.State.{Stop, value_missing, frame_missing, wrong_return, address_outside}

@@ -1,7 +1,6 @@
 -- `engine::at_end` meets its contract.
 -- Assumes nothing.
 use native.Mathlib.Omega.{arith}
-use borrow.Author.Rules.{rules}
 use Rattle.word.proofs.Signed.{back-ok}
 use Rattle.engine.proofs.at_end.Goals as goal
 

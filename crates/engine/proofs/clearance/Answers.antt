@@ -3,7 +3,6 @@
 use mathlib.Core.Path.{◌≡◌, sym, ap, ◌∙◌}
 use lib.IntN.{ℤ}
 use lib.ListN.{length}
-use borrow.Author.Rules.{rules}
 use Rattle.word.specs.Number.{index_of}
 use Rattle.word.proofs.Signed.{back, back-ok}
 use Rattle.label.specs.Word.{low_label}

@@ -2,7 +2,6 @@
 -- Assumes nothing.
 use native.Mathlib.Omega.{arith}
 use borrow.Author.Tests.{eq-eqb, ne_eqb}
-use borrow.Author.Rules.{rules}
 use Rattle.word.proofs.Signed.{back-ok}
 use Rattle.engine.specs.Act.{emit_of}
 use Rattle.engine.proofs.emit.Goals as goal

@@ -1,7 +1,6 @@
 -- `engine::end_or` meets its contract.
 -- Assumes nothing.
 use mathlib.Core.Path.{sym, ◌∙◌}
-use borrow.Author.Rules.{rules}
 use Rattle.engine.specs.Act.{end_or}
 use Rattle.engine.proofs.end_or.Goals as goal
 

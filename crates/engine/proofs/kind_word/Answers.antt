@@ -1,6 +1,5 @@
 -- `engine::kind_word` meets its contract.
 -- Assumes nothing.
-use borrow.Author.Rules.{rules}
 use Rattle.engine.proofs.kind_word.Goals as goal
 
 pub returns-in-Number : goal.returns-in-Number

@@ -1,6 +1,5 @@
 -- `engine::line_at` meets its contract.
 -- Assumes nothing.
-use borrow.Author.Rules.{rules}
 use Rattle.word.proofs.Signed.{back-ok}
 use Rattle.engine.proofs.line_at.Goals as goal
 

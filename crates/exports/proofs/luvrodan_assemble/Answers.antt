@@ -3,7 +3,6 @@
 use mathlib.Core.Path.{ap, ap₂, ◌∙◌}
 use Rattle.exports.specs.Result.{written_result}
 use Rattle.exports.specs.Exported.{written_left, exported_written}
-use borrow.Author.Rules.{rules}
 use Rattle.exports.proofs.luvrodan_assemble.Goals as goal
 
 pub returns : goal.returns

@@ -3,7 +3,6 @@
 use mathlib.Core.Path.{ap, ap₂, ◌∙◌}
 use Rattle.exports.specs.Result.{page_result}
 use Rattle.exports.specs.Exported.{page_left, exported_page}
-use borrow.Author.Rules.{rules}
 use Rattle.exports.proofs.luvrodan_page.Goals as goal
 
 pub returns : goal.returns

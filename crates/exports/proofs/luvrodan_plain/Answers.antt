@@ -1,7 +1,6 @@
 -- `exports::luvrodan_plain` meets its contract.
 -- Assumes nothing.
 use Rattle.exports.proofs.Leaving.{plain-left}
-use borrow.Author.Rules.{rules}
 use Rattle.exports.proofs.luvrodan_plain.Goals as goal
 
 pub returns : goal.returns

@@ -1,7 +1,6 @@
 -- `exports::luvrodan_tagged` meets its contract.
 -- Assumes nothing.
 use Rattle.exports.proofs.Leaving.{tagged-left, promises-left}
-use borrow.Author.Rules.{rules}
 use Rattle.exports.proofs.luvrodan_tagged.Goals as goal
 
 pub returns : goal.returns

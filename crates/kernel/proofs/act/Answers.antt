@@ -2,7 +2,6 @@
 -- Assumes nothing.
 use Rattle.word.proofs.Signed.{back}
 use Rattle.kernel.proofs.Acting.{residue-known}
-use borrow.Author.Rules.{rules}
 use Rattle.kernel.proofs.act.Goals as goal
 
 pub returns : goal.returns

@@ -6,7 +6,6 @@ use mir.Val.{SFits}
 use Rattle.kernel.specs.declared.Registers.{Registers}
 use Rattle.word.proofs.Signed.{back, back-ok, zero_is, zero-not}
 use Rattle.kernel.proofs.Acting.{bnz-none, bnz-zero, bnz-taken}
-use borrow.Author.Rules.{rules}
 use Rattle.kernel.proofs.bnz.Goals as goal
 
 pub returns-then-s-lt1 : goal.returns-then-s-lt1

@@ -2,7 +2,6 @@
 -- Assumes nothing.
 use borrow.Author.Tests.{eq-eqb, ne_eqb}
 use Rattle.word.proofs.Signed.{back, back-ok}
-use borrow.Author.Rules.{rules}
 use Rattle.kernel.proofs.combine.Goals as goal
 
 pub returns-then-code-eq-ADD : goal.returns-then-code-eq-ADD

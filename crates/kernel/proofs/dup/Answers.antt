@@ -3,7 +3,6 @@
 use native.Mathlib.Omega.{arith}
 use Rattle.word.proofs.Signed.{back-ok}
 use Rattle.kernel.proofs.Acting.{dup-done, dup-none}
-use borrow.Author.Rules.{rules}
 use Rattle.kernel.proofs.dup.Goals as goal
 
 pub returns-then-s-lt1 : goal.returns-then-s-lt1

@@ -1,8 +1,7 @@
 -- `kernel::go` meets its contract. The loop's invariant: what is left to run, from where it stands, equals the whole run.
 -- The measure is what is left of the places. Assumes nothing.
 use mathlib.Core.Path.{◌≡◌, sym, ap, ◌∙◌}
-use mathlib.Core.Logic.{⊎_elim}
-use Prim.Native.Nat.{◌+◌, ◌-◌, ◌*◌, ◌^◌, ◌<◌}
+use Prim.Native.Nat.{◌+◌, ◌*◌, ◌^◌, ◌<◌}
 use native.Mathlib.Omega.{arith}
 use lib.ListN.{length, set}
 use lib.Seq.{set_out}
@@ -11,7 +10,7 @@ use borrow.Author.Rules.{rules}
 use Rattle.word.proofs.Signed.{back-ok}
 use Rattle.handler.specs.Space.{instruction_at}
 use Rattle.kernel.specs.Words.{Acts, Held}
-use Rattle.kernel.proofs.Going.{Going, held_both, going_start, going_end, going-returned, going-denied, going-failed}
+use Rattle.kernel.proofs.Going.{held_both, going_start, going_end, going-returned, going-denied, going-failed}
 use Rattle.kernel.proofs.Going.{going-forward, going_on}
 use Rattle.kernel.proofs.go.Goals as goal
 use Rattle.kernel.proofs.go.Goals.{then-address-lt7, else-address-lt7}
@@ -98,9 +97,10 @@ loop-at-preserved c =
     let changed : c.if-address-lt7.row.words ≡ set c.loop-at.row.words c.act-r.result.address c.act-r.result.word = let r = c.act-r.result in
     let l = c.loop-at in
     elim c.if-address-lt7.branch [
-      then-address-lt7 w ↦ ap (λ (x : Cache). x.words) w.row-is ∙ ap (set l.row.words r.address) (back-ok r.word (omega (arith, c.act-r.type_inv)))
+      | then-address-lt7 w ↦ ap (λ (x : Cache). x.words) w.row-is ∙ ap (set l.row.words r.address) (back-ok r.word (omega (arith, c.act-r.type_inv)))
       | else-address-lt7 w ↦ ap (λ (x : Cache). x.words) w.row-is
-      ∙ sym (set_out l.row.words r.address r.word (omega (arith, w.if-address-lt7.false, l.invariant.words))) ] in
+          ∙ sym (set_out l.row.words r.address r.word (omega (arith, w.if-address-lt7.false, l.invariant.words)))
+    ] in
     let limited : Held (length c.args.space.now) c.args.count c.held-limit.result = c.held-limit.ensures in
     let acted : Acts c.loop-at.row.words (instruction_at c.args.space.now c.loop-at.at.place)
     c.loop-at.at c.loop-at.stack c.act-r.result c.act-r.new.stack = rw (back-ok _ c.act-arg-1.given, back-ok _ c.act-arg-in-loop-at-1.given) at c.act-r.ensures in

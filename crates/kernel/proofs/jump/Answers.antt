@@ -3,7 +3,6 @@
 use native.Mathlib.Omega.{arith}
 use Rattle.word.proofs.Signed.{back-ok}
 use Rattle.kernel.proofs.Acting.{jump-done, jump-none}
-use borrow.Author.Rules.{rules}
 use Rattle.kernel.proofs.jump.Goals as goal
 
 pub returns-then-s-lt1 : goal.returns-then-s-lt1

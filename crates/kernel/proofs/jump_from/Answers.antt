@@ -6,7 +6,6 @@ use native.Mathlib.Omega.{arith}
 use Rattle.word.proofs.Signed.{back, back-ok}
 use Rattle.kernel.specs.Words.{whole_of}
 use Rattle.kernel.proofs.Acting.{whole-small}
-use borrow.Author.Rules.{rules}
 use Rattle.kernel.proofs.jump_from.Goals as goal
 
 pub overflow_add-place : goal.overflow_add-place

@@ -3,7 +3,6 @@
 use native.Mathlib.Omega.{arith}
 use Rattle.word.proofs.Signed.{back, back-ok}
 use Rattle.kernel.proofs.Acting.{push-done, push-full}
-use borrow.Author.Rules.{rules}
 use Rattle.kernel.proofs.push.Goals as goal
 
 pub returns-then-depth-lt64 : goal.returns-then-depth-lt64

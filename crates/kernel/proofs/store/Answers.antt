@@ -5,7 +5,6 @@ use Rattle.word.specs.Number.{index_of}
 use native.Mathlib.Omega.{arith}
 use Rattle.word.proofs.Signed.{back-ok}
 use Rattle.kernel.proofs.Acting.{store-done, store-none, store_out}
-use borrow.Author.Rules.{rules}
 use Rattle.kernel.proofs.store.Goals as goal
 
 pub returns-then-depth-lt2 : goal.returns-then-depth-lt2

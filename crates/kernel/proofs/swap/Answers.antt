@@ -3,7 +3,6 @@
 use native.Mathlib.Omega.{arith}
 use Rattle.word.proofs.Signed.{back-ok}
 use Rattle.kernel.proofs.Acting.{swap-done, swap-none}
-use borrow.Author.Rules.{rules}
 use Rattle.kernel.proofs.swap.Goals as goal
 
 pub returns-then-depth-lt2 : goal.returns-then-depth-lt2

@@ -1,6 +1,5 @@
 -- `policy::owner` meets its contract.
 -- Assumes nothing.
-use borrow.Author.Rules.{rules}
 use borrow.Author.Tests.{lt-ltb, le-ltb}
 use Rattle.policy.specs.Read.{owner_code}
 use Rattle.policy.proofs.owner.Goals as goal

@@ -1,7 +1,6 @@
 -- `program::arguments_of` meets its contract: the arguments of a word that is not negative, and none of another.
 -- Assumes nothing.
 use mathlib.Core.Path.{◌≡◌, sym, ap, ◌∙◌}
-use borrow.Author.Rules.{rules}
 use Rattle.word.specs.Number.{natural_of}
 use Rattle.word.proofs.Signed.{back}
 use Rattle.program.proofs.Counting.{word-natural, word-negative}

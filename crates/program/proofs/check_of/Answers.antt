@@ -1,6 +1,5 @@
 -- `program::check_of` meets its contract: by the operand's kind.
 -- Assumes nothing.
-use borrow.Author.Rules.{rules}
 use Rattle.program.proofs.check_of.Goals as goal
 
 pub returns-in-Signed : goal.returns-in-Signed

@@ -1,7 +1,6 @@
 -- `program::code_of` meets its contract: a guess by some bits of the word, tested.
 -- Assumes nothing.
 use mathlib.Core.Path.{sym, ap, ◌∙◌}
-use borrow.Author.Rules.{rules}
 use Rattle.program.proofs.Spelling.{guess-named, guess-other, guesses}
 use Rattle.program.proofs.code_of.Goals as goal
 

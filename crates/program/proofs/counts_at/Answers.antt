@@ -4,7 +4,6 @@ use native.Mathlib.Omega.{arith}
 use Prim.Native.Nat.{◌+◌}
 use mir.Syntax.{w64}
 use mir.Facts.{to_z_pos}
-use borrow.Author.Rules.{rules}
 use Rattle.word.proofs.Signed.{back-ok}
 use Rattle.program.proofs.Fetching.{counts_whole, counts-cut}
 use Rattle.program.proofs.counts_at.Goals as goal

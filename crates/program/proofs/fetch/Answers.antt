@@ -8,7 +8,6 @@ use Rattle.program.specs.declared.Shape.TheVariants.{Of}
 use Rattle.program.specs.Command.{opcode_of}
 use Rattle.program.specs.Fetch.{shape_of}
 use Rattle.program.proofs.Fetching.{fetch-field, fetch-signed, fetch-plain, fetch-unknown}
-use borrow.Author.Rules.{rules}
 use Rattle.program.proofs.fetch.Goals as goal
 
 pub returns-then-width-eq8 : goal.returns-then-width-eq8

@@ -6,7 +6,6 @@ use Prim.Native.Nat.{◌+◌, ◌*◌, ◌%◌, ◌<◌}
 use lib.IntN.{pos}
 use mir.Syntax.{w64}
 use mir.Facts.{to_z_pos}
-use borrow.Author.Rules.{rules}
 use Rattle.word.proofs.Signed.{back}
 use Rattle.program.specs.Command.{arguments_of, results_of}
 use Rattle.program.proofs.Counting.{results-small}

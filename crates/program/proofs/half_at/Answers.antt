@@ -4,7 +4,6 @@ use mathlib.Core.Path.{◌≡◌, ◌∙◌, sym}
 use lib.IntN.{pos}
 use mir.Syntax.{w64}
 use mir.Val.{to_z, of_z}
-use borrow.Author.Rules.{rules}
 use Rattle.word.specs.Field.{bits_at}
 use Rattle.word.proofs.Signed.{back-ok}
 use Rattle.word.proofs.Laws.Field.{bits_at-lt}

@@ -2,7 +2,6 @@
 -- Assumes nothing.
 use mathlib.Core.Path.{◌≡◌, sym, ap, ◌∙◌}
 use lib.IntN.{ℤ}
-use borrow.Author.Rules.{rules}
 use Rattle.word.specs.Number.{index_of}
 use Rattle.word.proofs.Signed.{back}
 use Rattle.program.proofs.Counting.{inside-counts, outside-counts}

@@ -2,7 +2,6 @@
 use native.Mathlib.Omega.{arith}
 use Prim.Native.Nat.{◌+◌, ◌<◌, ◌≤◌}
 use lib.ListN.{length}
-use borrow.Author.Rules.{rules}
 use Rattle.word.proofs.Signed.{back-ok}
 use Rattle.word.proofs.Laws.Field.{bits_at-lt}
 use Rattle.program.proofs.Fetching.{long-whole, long-cut}

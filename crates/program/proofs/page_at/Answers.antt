@@ -3,7 +3,6 @@ use Rattle.std.proofs.Common.{get_or}
 use native.Mathlib.Omega.{arith}
 use mir.Syntax.{w64}
 use mir.Facts.{to_z_pos}
-use borrow.Author.Rules.{rules}
 use Rattle.program.proofs.Fetching.{page-whole, page-cut}
 use Rattle.program.proofs.page_at.Goals as goal
 

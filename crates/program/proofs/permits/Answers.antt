@@ -1,6 +1,5 @@
 -- `program::permits` meets its contract: by the operand's kind, a page and two counts are tested, and any other may be any number.
 -- Assumes nothing.
-use borrow.Author.Rules.{rules}
 use Rattle.word.proofs.Signed.{back}
 use Rattle.program.proofs.permits.Goals as goal
 

@@ -4,7 +4,6 @@ use native.Mathlib.Omega.{arith}
 use mathlib.Core.Path.{◌≡◌, sym, ap, ◌∙◌}
 use Prim.Native.Nat.{suc, ◌-◌, ◌^◌, ◌<◌}
 use lib.IntN.{negsuc}
-use borrow.Author.Rules.{rules}
 use Rattle.word.proofs.Laws.Wrap.{signed-upper}
 use Rattle.word.proofs.Laws.Word.{signed-to_z, below-fits, below-back}
 use Rattle.program.proofs.signed.Goals as goal

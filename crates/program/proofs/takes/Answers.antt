@@ -4,7 +4,6 @@
 use mathlib.Core.Path.{◌≡◌, ◌∙◌, sym, subst}
 use Prim.Native.Nat.{◌^◌}
 use lib.Signed.{mag}
-use borrow.Author.Rules.{rules}
 use borrow.Author.Tests.{lt-ltb}
 use Rattle.word.proofs.Signed.{back}
 use Rattle.program.specs.declared.Operand.{Operand}

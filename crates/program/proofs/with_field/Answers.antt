@@ -1,6 +1,5 @@
 -- `program::with_field` meets its contract, by the field's two cases.
 -- Assumes nothing.
-use borrow.Author.Rules.{rules}
 use Rattle.word.proofs.Signed.{back-ok}
 use Rattle.program.proofs.with_field.Goals as goal
 

@@ -1,6 +1,5 @@
 -- `program::write` meets its contract. The loop's invariant: what is left to write, laid from word i on, gives the whole space.
 -- The measure is what is left of the bytes. Assumes nothing.
-use borrow.Author.Rules.{rules}
 use native.Mathlib.Omega.{arith}
 use mathlib.Core.Path.{◌≡◌, ◌∙◌, sym, ap}
 use Prim.Native.Nat.{◌+◌, ◌*◌, ◌-◌, ◌<◌, ◌≤◌, ◌^◌}
@@ -11,7 +10,7 @@ use Rattle.word.proofs.Signed.{back-ok}
 use Rattle.program.specs.declared.Fetched.TheVariants.{Is}
 use Rattle.program.specs.Command.{opcode_of}
 use Rattle.program.specs.Fetch.{shape_of, fetch_of}
-use Rattle.program.proofs.Loading.{Writing, writing_start, writing-end, writing-full, writing-unknown, writing-cut}
+use Rattle.program.proofs.Loading.{writing_start, writing-end, writing-full, writing-unknown, writing-cut}
 use Rattle.program.proofs.Loading.{writing-forward, writing-next}
 use Rattle.program.proofs.write.Goals as goal
 

@@ -2,7 +2,6 @@
 -- Assumes nothing.
 use mathlib.Core.Path.{sym}
 use lib.Seq.{length-take-le}
-use borrow.Author.Rules.{rules}
 use Rattle.report.proofs.on_cells.Goals as goal
 
 pub slice_bounds-run-end-2 : goal.slice_bounds-run-end-2

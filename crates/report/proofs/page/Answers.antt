@@ -1,7 +1,6 @@
 -- `report::page` meets its contract: the length of the space decides.
 -- Assumes nothing.
 use Rattle.report.proofs.Paging.{page-short, page-written}
-use borrow.Author.Rules.{rules}
 use Rattle.report.proofs.page.Goals as goal
 
 pub returns-then-out-lt-PAGE_LIMIT : goal.returns-then-out-lt-PAGE_LIMIT

@@ -1,6 +1,5 @@
 -- `report::printed` meets its contract: the first bytes of the space, or none.
 -- Assumes nothing.
-use borrow.Author.Rules.{rules}
 use Rattle.report.proofs.printed.Goals as goal
 
 pub returns-in-Written : goal.returns-in-Written

@@ -17,7 +17,6 @@ use Rattle.report.specs.Lines.{PageWords}
 use Rattle.report.specs.Page.{zeros, lent_for, handler_space, end_for}
 use Rattle.report.proofs.Pages.{end-pages}
 use Rattle.report.proofs.Paging.{run-written}
-use borrow.Author.Rules.{rules}
 use Rattle.report.proofs.run.Goals as goal
 
 pub refused-requires : goal.refused-requires

@@ -5,7 +5,6 @@ use native.Mathlib.Omega.{arith}
 use lib.IntN.{pos}
 use lib.ListN.{length-replicate}
 use Rattle.report.proofs.Paging.{cells-few, page-bad, page-read}
-use borrow.Author.Rules.{rules}
 use Rattle.report.proofs.write.Goals as goal
 
 pub on_cells-requires : goal.on_cells-requires

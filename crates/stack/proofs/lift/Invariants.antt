@@ -1,12 +1,9 @@
 -- `stack::lift` meets its contract. The loop's invariant: lifting what is left gives what lifting all gives. The measure is what is left.
 -- Assumes nothing.
-use native.Mathlib.Omega.{arith}
-use mathlib.Core.Path.{◌≡◌, refl, sym, ◌∙◌}
+use mathlib.Core.Path.{◌≡◌}
 use Prim.Native.Nat.{◌≤◌}
 use lib.ListN.{length}
 use Rattle.stack.specs.Words.{lifted}
-use Rattle.stack.proofs.Entry.{lifted-next, lifted-none}
-use borrow.Author.Rules.{rules}
 use Rattle.stack.proofs.lift.Given as goal
 
 abbrev pub invariant-loop-left : goal.invariant-loop-left

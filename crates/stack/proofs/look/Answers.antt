@@ -6,7 +6,6 @@ use Rattle.word.proofs.Signed.{back-ok}
 use Rattle.stack.specs.Words.{slot_at, entry_at}
 use Rattle.stack.proofs.Kind.{kind-value, kind-owing, kind-frame}
 use Rattle.stack.proofs.Entry.{slot-entry}
-use borrow.Author.Rules.{rules}
 use Rattle.stack.proofs.look.Goals as goal
 
 pub returns-then-depth-below : goal.returns-then-depth-below

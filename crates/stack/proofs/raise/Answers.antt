@@ -2,7 +2,6 @@
 -- Assumes nothing.
 use Rattle.word.proofs.Signed.{back-ok}
 use Rattle.stack.specs.Words.{entry_at, raised}
-use borrow.Author.Rules.{rules}
 use Rattle.stack.proofs.raise.Goals as goal
 
 pub returns : goal.returns

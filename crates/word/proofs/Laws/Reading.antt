@@ -1,6 +1,6 @@
 -- Reading numbers from text: what the loop over digits keeps, and that a number kept up to 10^19 is read as the number itself.
 -- Assumes nothing.
-use Rattle.std.proofs.Common.{◌≡◌, ℕ, zero, suc, ◌+◌, ◌-◌, ◌*◌, ◌^◌, ◌<◌, ◌≤◌, Bool, true, false, ◌&&◌, eqb, ltb, leb, List, [], ◌∷◌, map, reverse, length, get_or, drop, ℤ, pos, negsuc, sym, refl, ap, ◌∙◌, add_comm, arith, drop_of_length-le, drop-cons, ltb-false, ltb-true, le-ltb, lt-ltb, eq-eqb, ne_eqb, eqb-true, le-leb, leb-true}
+use Rattle.std.proofs.Common.{◌≡◌, ℕ, zero, suc, ◌+◌, ◌-◌, ◌*◌, ◌^◌, ◌<◌, ◌≤◌, Bool, true, false, eqb, ltb, leb, List, [], ◌∷◌, map, length, get_or, drop, pos, negsuc, sym, refl, ap, ◌∙◌, add_comm, arith, drop_of_length-le, drop-cons, ltb-false, ltb-true, le-ltb, lt-ltb, eq-eqb, ne_eqb, eqb-true, le-leb, leb-true}
 use mathlib.Core.List.{reverse_aux}
 use lib.ListN.{get_or-eq_default}
 use borrow.Author.Tests.{lt-leb}
@@ -11,10 +11,7 @@ use Rattle.word.specs.Text.{digit_value, numeral_value}
 use Rattle.word.specs.Numeral.{is_digit, all_digits, signed_by, leading_digits, decimal_to, decimal_from}
 use Rattle.word.specs.Numeral.{capped, capped_more, capped_digits, capped_decimal}
 use Rattle.word.specs.declared.exact.Exact.{Exact}
-use Rattle.word.specs.declared.exact.Exact.TheVariants as Exact
-use Rattle.word.specs.declared.numeral.Decimal.{Decimal}
-use Rattle.word.specs.declared.numeral.Decimal.TheVariants.{Is, Beyond, Missing}
-use Rattle.word.specs.declared.numeral.Digits.{Digits}
+use Rattle.word.specs.declared.numeral.Decimal.TheVariants.{Missing}
 use Rattle.word.proofs.Bool.{and_first, and_second}
 
 -- ════════════════════════════════════════════════════════════════════════════════════════════

@@ -5,7 +5,6 @@ use Rattle.engine.specs.declared.start.Limit.TheVariants.{Broken, Kept}
 use Rattle.program.specs.Decode.{decode}
 use Rattle.engine.specs.Start.{start_of}
 use Rattle.engine.proofs.Limits.{start-refused, start-limited}
-use borrow.Author.Rules.{rules}
 use Rattle.engine.proofs.start.check.Goals as goal
 
 pub returns-in-Refused : goal.returns-in-Refused

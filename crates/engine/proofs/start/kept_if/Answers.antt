@@ -1,6 +1,5 @@
 -- `engine::start::kept_if` meets its contract.
 -- Assumes nothing.
-use borrow.Author.Rules.{rules}
 use Rattle.engine.proofs.start.kept_if.Goals as goal
 
 pub returns : goal.returns

@@ -1,13 +1,11 @@
 -- `engine::start::label_words` meets its contract. The loop's invariant: the label words before i are labels, so that what is left decides.
 -- The measure is what is left of them. Assumes nothing.
-use borrow.Author.Rules.{rules}
 use native.Mathlib.Omega.{arith}
 use mathlib.Core.Path.{◌∙◌, sym}
-use Prim.Native.Nat.{◌-◌}
 use lib.IntN.{pos}
-use lib.ListN.{length, get_or}
+use lib.ListN.{get_or}
 use Rattle.word.proofs.Signed.{back-ok}
-use Rattle.engine.proofs.Limits.{Labelled, labelled-start, labelled-end, labelled-broken, labelled-next}
+use Rattle.engine.proofs.Limits.{labelled-start, labelled-end, labelled-broken, labelled-next}
 use Rattle.engine.proofs.start.label_words.Goals as goal
 
 pub loop-i-init : goal.loop-i-init

@@ -1,6 +1,5 @@
 -- `engine::start::or_else` meets its contract.
 -- Assumes nothing.
-use borrow.Author.Rules.{rules}
 use Rattle.engine.proofs.start.or_else.Goals as goal
 
 pub returns-in-Broken : goal.returns-in-Broken

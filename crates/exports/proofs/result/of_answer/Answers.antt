@@ -2,7 +2,6 @@
 -- Assumes nothing.
 use mathlib.Core.Path.{◌∙◌, sym, ap}
 use Rattle.exports.specs.Result.{result_of}
-use borrow.Author.Rules.{rules}
 use Rattle.exports.proofs.result.of_answer.Goals as goal
 
 pub returns-in-Refused : goal.returns-in-Refused

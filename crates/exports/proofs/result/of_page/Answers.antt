@@ -2,7 +2,6 @@
 -- Assumes nothing.
 use mathlib.Core.Path.{sym, ap}
 use Rattle.exports.specs.Result.{page_result}
-use borrow.Author.Rules.{rules}
 use Rattle.exports.proofs.result.of_page.Goals as goal
 
 pub returns-in-Written : goal.returns-in-Written

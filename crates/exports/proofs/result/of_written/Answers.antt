@@ -2,7 +2,6 @@
 -- Assumes nothing.
 use mathlib.Core.Path.{sym, ap}
 use Rattle.exports.specs.Result.{written_result}
-use borrow.Author.Rules.{rules}
 use Rattle.exports.proofs.result.of_written.Goals as goal
 
 pub returns-in-Length : goal.returns-in-Length

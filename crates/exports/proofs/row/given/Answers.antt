@@ -2,14 +2,12 @@
 -- Assumes nothing.
 use mathlib.Core.Path.{◌∙◌, sym, ap}
 use mathlib.Core.List.{List}
-use Prim.Native.Nat.{◌-◌}
 use native.Mathlib.Omega.{arith}
 use lib.IntN.{ℤ, negsuc}
 use lib.ListN.{length, set}
-use borrow.Author.Rules.{rules}
 use borrow.Author.Tests.{ne_eqb}
 use Rattle.word.proofs.Signed.{back-ok}
-use Rattle.translator.proofs.Putting.{Storing, storing-start}
+use Rattle.translator.proofs.Putting.{storing-start}
 use Rattle.exports.proofs.Rows.{copying, copied, given-seven, given-other}
 use Rattle.exports.proofs.row.given.Goals as goal
 

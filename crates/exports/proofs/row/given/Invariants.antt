@@ -1,16 +1,7 @@
 -- `exports::row::given` meets its contract. The loop's invariant: what is left to copy, after what was, makes the whole.
 -- Assumes nothing.
-use mathlib.Core.Path.{◌∙◌, sym, ap}
-use mathlib.Core.List.{List}
 use Prim.Native.Nat.{◌-◌}
-use native.Mathlib.Omega.{arith}
-use lib.IntN.{ℤ, negsuc}
-use lib.ListN.{length, set}
-use borrow.Author.Rules.{rules}
-use borrow.Author.Tests.{ne_eqb}
-use Rattle.word.proofs.Signed.{back-ok}
-use Rattle.translator.proofs.Putting.{Storing, storing-start}
-use Rattle.exports.proofs.Rows.{copying, copied, given-seven, given-other}
+use Rattle.translator.proofs.Putting.{Storing}
 use Rattle.exports.proofs.row.given.Given as goal
 
 abbrev pub invariant-loop-i : goal.invariant-loop-i

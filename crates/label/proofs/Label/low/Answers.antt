@@ -2,7 +2,6 @@
 -- Assumes nothing.
 use Rattle.word.proofs.Signed.{back}
 use Rattle.label.specs.Word.{low_label}
-use borrow.Author.Rules.{rules}
 use Rattle.label.proofs.Label.low.Goals as goal
 
 pub returns : goal.returns

@@ -1,6 +1,5 @@
 -- `label::Label::of_word` meets its contract: the word is taken as a natural number, whose bound is tested.
 -- Assumes nothing.
-use borrow.Author.Rules.{rules}
 use borrow.Author.Tests.{lt-ltb, le-ltb}
 use Rattle.word.proofs.Signed.{back}
 use Rattle.label.specs.Word.{stored}

@@ -7,7 +7,6 @@ use native.Mathlib.Omega.{arith}
 use Rattle.word.specs.Wrap.{residue}
 use Rattle.word.proofs.Signed.{back}
 use Rattle.step.specs.Lent.{cells}
-use borrow.Author.Rules.{rules}
 use Rattle.plain.proofs.command.act.Goals as goal
 
 pub returns-then-code-lt3 : goal.returns-then-code-lt3

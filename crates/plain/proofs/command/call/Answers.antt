@@ -7,7 +7,6 @@ use Rattle.step.specs.Lent.{lent, with_stack}
 use Rattle.step.specs.Find.{find_of}
 use Rattle.plain.proofs.Acting.{act-halted, act-allowed}
 use Rattle.plain.proofs.Calling.{call-find, call-rule, call-effect}
-use borrow.Author.Rules.{rules}
 use Rattle.plain.proofs.command.call.Goals as goal
 
 pub returns-then-found-ne-CARRIED : goal.returns-then-found-ne-CARRIED

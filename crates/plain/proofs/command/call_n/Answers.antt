@@ -3,7 +3,6 @@
 use mathlib.Core.Path.{◌∙◌}
 use mathlib.Core.Logic.{inr}
 use Rattle.word.proofs.Signed.{back, back-ok}
-use borrow.Author.Rules.{rules}
 use Rattle.plain.proofs.command.call_n.Goals as goal
 
 pub returns : goal.returns

@@ -7,7 +7,6 @@ use Rattle.step.specs.Lent.{after, lent}
 use Rattle.step.specs.Find.{find_of}
 use Rattle.plain.proofs.Acting.{act-halted, act-allowed}
 use Rattle.plain.proofs.Printing.{print-find, print-rule, print-effect}
-use borrow.Author.Rules.{rules}
 use Rattle.plain.proofs.command.output.Goals as goal
 
 pub returns-then-found-ne-CARRIED : goal.returns-then-found-ne-CARRIED

@@ -7,7 +7,6 @@ use Rattle.step.specs.Find.{inputs, find_of}
 use Rattle.step.specs.Effect.{effect_of}
 use Rattle.plain.specs.Ruler.{standard_by}
 use Rattle.plain.proofs.Acting.{act-allowed}
-use borrow.Author.Rules.{rules}
 use Rattle.plain.proofs.command.push.Goals as goal
 
 pub returns : goal.returns

@@ -7,7 +7,6 @@ use Rattle.step.specs.Find.{find_of}
 use Rattle.step.specs.Effect.{effect_of}
 use Rattle.plain.specs.Ruler.{standard_by}
 use Rattle.plain.proofs.Acting.{act-halted, act-denied, act-allowed}
-use borrow.Author.Rules.{rules}
 use Rattle.plain.proofs.command.store.Goals as goal
 
 pub returns-then-found-ne-CARRIED : goal.returns-then-found-ne-CARRIED

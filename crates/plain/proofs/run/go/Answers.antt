@@ -1,11 +1,10 @@
 -- `plain::run::go` meets its contract. The loop's invariant: what is left to run, from where it stands, equals the whole run.
 -- The measure is the allowance that is left. Assumes nothing.
-use borrow.Author.Rules.{rules}
 use native.Mathlib.Nat.{sub_self}
 use native.Mathlib.Omega.{arith}
 use mathlib.Core.Path.{◌≡◌, ◌∙◌, sym, ap, ap₂}
-use Prim.Native.Nat.{ℕ, ◌-◌, ◌<◌, ◌≤◌}
-use mathlib.Core.Bool.{true, false, ◌&&◌, not}
+use Prim.Native.Nat.{ℕ, ◌<◌, ◌≤◌}
+use mathlib.Core.Bool.{true, false, ◌&&◌}
 use lib.Dec.{leb, eqb}
 use lib.ListN.{length}
 use borrow.Author.Tests.{le-leb, eq-eqb}
@@ -18,7 +17,7 @@ use Rattle.word.proofs.Signed.{back-ok}
 use Rattle.step.specs.Lent.{cells, Lent, lent, After, after}
 use Rattle.engine.specs.Memory.{Output, output, environment}
 use Rattle.engine.specs.Act.{acted, act_of}
-use Rattle.engine.proofs.Going.{SameLengths, same_start, same-on, same_lines, Going}
+use Rattle.engine.proofs.Going.{SameLengths, same_start, same-on}
 use Rattle.engine.proofs.Going.{going_start, going_end, going-outside, going-stopped, going_on}
 use Rattle.plain.specs.Ruler.{standard_ruler}
 use Rattle.plain.specs.Next.{Ready, ready}

@@ -13,7 +13,6 @@ use Rattle.word.specs.Wrap.{residue}
 use Rattle.word.proofs.Signed.{back-ok}
 use Rattle.engine.specs.Loop.{word_at, operand_at}
 use Rattle.plain.specs.Next.{Ready, ready, chosen, next_of}
-use borrow.Author.Rules.{rules}
 use Rattle.plain.proofs.run.next.Goals as goal
 
 pub returns-then-i-count : goal.returns-then-i-count

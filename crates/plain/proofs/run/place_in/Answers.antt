@@ -5,7 +5,6 @@ use mathlib.Core.Path.{◌≡◌, ◌∙◌, ap}
 use Rattle.word.specs.Wrap.{residue, Signed}
 use Rattle.word.proofs.Signed.{back-ok}
 use Rattle.word.proofs.Bits.{bits_below, bits_above}
-use borrow.Author.Rules.{rules}
 use Rattle.plain.proofs.run.place_in.Goals as goal
 
 pub returns-then-bits-count : goal.returns-then-bits-count

@@ -1,6 +1,5 @@
 -- `report::job::allowance` meets its contract, by the field's two cases.
 -- Assumes nothing.
-use borrow.Author.Rules.{rules}
 use Rattle.report.proofs.job.allowance.Goals as goal
 
 pub returns-in-Is : goal.returns-in-Is

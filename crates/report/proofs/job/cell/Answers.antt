@@ -1,6 +1,5 @@
 -- `report::job::cell` meets its contract, by the cases of its two fields.
 -- Assumes nothing.
-use borrow.Author.Rules.{rules}
 use Rattle.word.proofs.Signed.{back-ok}
 use Rattle.report.proofs.job.cell.Goals as goal
 

@@ -4,7 +4,6 @@ use mathlib.Core.Path.{◌∙◌, sym}
 use Rattle.word.proofs.Signed.{back-ok}
 use Rattle.report.specs.Job.{four_at}
 use Rattle.report.proofs.Fields.{four-fits}
-use borrow.Author.Rules.{rules}
 use Rattle.report.proofs.job.four_at.Goals as goal
 
 pub overflow_cast-result : goal.overflow_cast-result

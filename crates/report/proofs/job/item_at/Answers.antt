@@ -3,7 +3,6 @@
 use mathlib.Core.Path.{◌∙◌, ap, ap₂}
 use Rattle.report.specs.Job.{cell, allowance, reader_set}
 use Rattle.report.proofs.Fields.{item-cell, item-allowance, item-reader, item-sheet, item-unknown}
-use borrow.Author.Rules.{rules}
 use Rattle.report.proofs.job.item_at.Goals as goal
 
 pub returns-then-code-eq64 : goal.returns-then-code-eq64

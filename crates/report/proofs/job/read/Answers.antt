@@ -1,14 +1,11 @@
 -- `report::job::read` meets its contract. The loop's invariant: what is left to read, from where it stands, gives the whole job's
 -- reading. The measure is what is left of the job. Assumes nothing.
-use borrow.Author.Rules.{rules}
 use native.Mathlib.Omega.{arith}
-use mathlib.Core.Path.{◌≡◌, ◌∙◌, sym}
-use Prim.Native.Nat.{◌-◌, ◌<◌}
+use mathlib.Core.Path.{◌∙◌, sym}
+use Prim.Native.Nat.{◌<◌}
 use lib.ListN.{length}
 use Rattle.word.proofs.Signed.{back-ok}
-use Rattle.report.specs.declared.job.Item.{Item}
-use Rattle.report.specs.Job.{item_at}
-use Rattle.report.proofs.Reading.{Going, answered-long, going_start, going-same, going_end, going-bad, going-sheet, going-limit}
+use Rattle.report.proofs.Reading.{answered-long, going_start, going_end, going-bad, going-sheet, going-limit}
 use Rattle.report.proofs.Reading.{going-cell}
 use Rattle.report.proofs.Reading.{going-allowance, going-reader}
 use Rattle.report.proofs.job.read.Goals as goal

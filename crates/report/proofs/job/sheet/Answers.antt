@@ -1,7 +1,6 @@
 -- `report::job::sheet` meets its contract: the rest from the offset that the reader says, and nothing of a bad job.
 -- Assumes nothing.
 use mathlib.Core.Path.{◌∙◌, sym}
-use borrow.Author.Rules.{rules}
 use Rattle.report.proofs.Paging.{sheet-read, sheet-bad}
 use Rattle.report.proofs.job.sheet.Goals as goal
 

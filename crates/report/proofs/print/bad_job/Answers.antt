@@ -2,7 +2,6 @@
 -- Assumes nothing.
 use native.Mathlib.Omega.{arith}
 use Rattle.report.proofs.Texts.{written-room, natural-short, written-job}
-use borrow.Author.Rules.{rules}
 use Rattle.report.proofs.print.bad_job.Goals as goal
 
 pub bytes-requires : goal.bytes-requires

@@ -1,9 +1,6 @@
 -- `report::print::bytes` meets its contract. The loop's invariant: what is left to copy, laid from where it stands, gives the whole.
 -- The measure is what is left of the text. Assumes nothing.
-use borrow.Author.Rules.{rules}
-use Prim.Native.Nat.{◌-◌}
-use lib.ListN.{length}
-use Rattle.report.proofs.Texts.{Copying, copying-start, copying-next, copying-end}
+use Rattle.report.proofs.Texts.{copying-start, copying-next, copying-end}
 use Rattle.report.proofs.print.bytes.Goals as goal
 
 pub loop-i-init : goal.loop-i-init

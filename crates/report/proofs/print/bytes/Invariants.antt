@@ -1,9 +1,8 @@
 -- `report::print::bytes` meets its contract. The loop's invariant: what is left to copy, laid from where it stands, gives the whole.
 -- The measure is what is left of the text. Assumes nothing.
-use borrow.Author.Rules.{rules}
 use Prim.Native.Nat.{◌-◌}
 use lib.ListN.{length}
-use Rattle.report.proofs.Texts.{Copying, copying-start, copying-next, copying-end}
+use Rattle.report.proofs.Texts.{Copying}
 use Rattle.report.proofs.print.bytes.Given as goal
 
 abbrev pub invariant-loop-i : goal.invariant-loop-i

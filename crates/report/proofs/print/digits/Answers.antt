@@ -3,7 +3,6 @@
 use native.Mathlib.Omega.{arith}
 use Rattle.word.specs.Text.{hexadecimal}
 use Rattle.report.proofs.Texts.{written-put, hexadecimal-length}
-use borrow.Author.Rules.{rules}
 use Rattle.report.proofs.print.digits.Goals as goal
 
 pub returns : goal.returns

@@ -1,7 +1,6 @@
 -- `report::print::head` meets its contract.
 -- Assumes nothing.
 use Rattle.word.proofs.Signed.{back}
-use borrow.Author.Rules.{rules}
 use Rattle.report.proofs.print.head.Goals as goal
 
 pub returns-in-Number : goal.returns-in-Number

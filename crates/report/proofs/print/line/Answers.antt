@@ -9,7 +9,6 @@ use Rattle.engine.specs.Layout.{line_from}
 use Rattle.report.specs.Lines.{page_text, head_text, line_text}
 use Rattle.report.specs.Written.{Written}
 use Rattle.report.proofs.Texts.{written-room, page-short, head-short, line-short, hexadecimal-length, written-line}
-use borrow.Author.Rules.{rules}
 use Rattle.report.proofs.print.line.Goals as goal
 
 pub head-first-requires : goal.head-first-requires

@@ -1,10 +1,9 @@
 -- `report::print::lines` meets its contract. The loop's invariant: what is left to print, laid from where it stands, gives the whole.
 -- The measure is the number of lines that are left. Assumes nothing.
-use borrow.Author.Rules.{rules}
 use native.Mathlib.Omega.{arith}
 use mathlib.Core.Path.{◌≡◌, ◌∙◌, sym, ap, subst}
 use mathlib.Core.List.{List}
-use Prim.Native.Nat.{◌*◌, ◌-◌, ◌<◌, ◌≤◌, min}
+use Prim.Native.Nat.{◌*◌, ◌<◌, ◌≤◌, min}
 use lib.ListN.{length}
 use Rattle.program.specs.Command.{is_page}
 use Rattle.machine.specs.Atom.{Line}
@@ -13,7 +12,7 @@ use Rattle.engine.specs.Layout.{line_in, lines_of}
 use Rattle.engine.proofs.Pairs.{lines-length}
 use Rattle.report.specs.Lines.{shown_text}
 use Rattle.report.specs.Written.{Written}
-use Rattle.report.proofs.Printing.{lines_from, Printing, printing-start, printing-end, printing-next}
+use Rattle.report.proofs.Printing.{lines_from, printing-start, printing-end, printing-next}
 use Rattle.report.proofs.print.lines.Goals as goal
 
 pub loop-i-init : goal.loop-i-init

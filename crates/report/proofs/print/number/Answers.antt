@@ -3,7 +3,6 @@
 use native.Mathlib.Omega.{arith}
 use Rattle.word.specs.Text.{natural}
 use Rattle.report.proofs.Texts.{written-put, natural-short}
-use borrow.Author.Rules.{rules}
 use Rattle.report.proofs.print.number.Goals as goal
 
 pub returns : goal.returns

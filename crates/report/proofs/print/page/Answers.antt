@@ -9,7 +9,6 @@ use Rattle.program.proofs.Ranges.{page-digits}
 use Rattle.report.specs.Lines.{space, page_text}
 use Rattle.report.specs.Written.{Written}
 use Rattle.report.proofs.Texts.{written-append, written-room}
-use borrow.Author.Rules.{rules}
 use Rattle.report.proofs.print.page.Goals as goal
 
 pub bytes-requires : goal.bytes-requires

@@ -2,7 +2,6 @@
 -- Assumes nothing.
 use native.Mathlib.Omega.{arith}
 use Rattle.report.proofs.Texts.{written-room, natural-short, written-refused}
-use borrow.Author.Rules.{rules}
 use Rattle.report.proofs.print.refused.Goals as goal
 
 pub bytes-gap-requires : goal.bytes-gap-requires

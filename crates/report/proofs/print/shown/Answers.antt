@@ -4,7 +4,6 @@ use native.Mathlib.Omega.{arith}
 use mathlib.Core.Path.{◌∙◌, sym}
 use Rattle.engine.specs.Layout.{line_from}
 use Rattle.report.proofs.Printing.{written-shown, written-hidden}
-use borrow.Author.Rules.{rules}
 use Rattle.report.proofs.print.shown.Goals as goal
 
 pub returns-then-flows : goal.returns-then-flows

@@ -4,7 +4,6 @@ use native.Mathlib.Omega.{arith}
 use Rattle.word.specs.Text.{decimal}
 use Rattle.word.proofs.Signed.{back}
 use Rattle.report.proofs.Texts.{written-put, decimal-short}
-use borrow.Author.Rules.{rules}
 use Rattle.report.proofs.print.signed_number.Goals as goal
 
 pub returns : goal.returns

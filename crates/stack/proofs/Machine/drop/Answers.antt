@@ -2,7 +2,6 @@
 -- Assumes nothing.
 use borrow.Author.Tests.{lt-ltb, le-ltb}
 use Rattle.stack.specs.Words.{dropped}
-use borrow.Author.Rules.{rules}
 use Rattle.stack.proofs.Machine.drop.Goals as goal
 
 pub returns-then-depth-gt0 : goal.returns-then-depth-gt0

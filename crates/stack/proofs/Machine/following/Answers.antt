@@ -1,7 +1,6 @@
 -- `stack::Machine::following` meets its contract.
 -- Assumes nothing.
 use Rattle.stack.specs.Words.{following}
-use borrow.Author.Rules.{rules}
 use Rattle.stack.proofs.Machine.following.Goals as goal
 
 pub returns : goal.returns

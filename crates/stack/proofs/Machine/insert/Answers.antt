@@ -3,7 +3,6 @@
 use borrow.Author.Tests.{lt-ltb, le-ltb, le-leb, lt-leb}
 use Rattle.word.proofs.Signed.{back}
 use Rattle.stack.specs.Words.{inserted_stack}
-use borrow.Author.Rules.{rules}
 use Rattle.stack.proofs.Machine.insert.Goals as goal
 
 pub returns-then-stack-ge768 : goal.returns-then-stack-ge768

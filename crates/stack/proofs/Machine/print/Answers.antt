@@ -2,7 +2,6 @@
 -- Assumes nothing.
 use borrow.Author.Tests.{lt-ltb, le-ltb}
 use Rattle.stack.specs.Words.{printed}
-use borrow.Author.Rules.{rules}
 use Rattle.stack.proofs.Machine.print.Goals as goal
 
 pub returns-then-lines-room : goal.returns-then-lines-room

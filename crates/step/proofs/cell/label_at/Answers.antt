@@ -1,7 +1,6 @@
 -- `step::cell::label_at` meets its contract.
 -- Assumes nothing.
 use Rattle.word.proofs.Signed.{back-ok}
-use borrow.Author.Rules.{rules}
 use Rattle.step.proofs.cell.label_at.Goals as goal
 
 pub returns-in-At : goal.returns-in-At

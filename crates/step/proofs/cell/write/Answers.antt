@@ -2,7 +2,6 @@
 -- Assumes nothing.
 use mathlib.Core.Path.{refl}
 use Rattle.word.proofs.Signed.{back, back-ok}
-use borrow.Author.Rules.{rules}
 use Rattle.step.proofs.cell.write.Goals as goal
 
 pub returns-in-At : goal.returns-in-At

@@ -3,7 +3,6 @@
 use native.Mathlib.Omega.{arith}
 use Rattle.word.proofs.Signed.{back-ok}
 use Rattle.step.specs.Effect.{arith_effect}
-use borrow.Author.Rules.{rules}
 use Rattle.step.proofs.effect.arith.Goals as goal
 
 pub returns-in-Number : goal.returns-in-Number

@@ -3,7 +3,6 @@
 use native.Mathlib.Omega.{arith}
 use Rattle.word.proofs.Signed.{back, back-ok}
 use Rattle.step.specs.Effect.{bnz_effect}
-use borrow.Author.Rules.{rules}
 use Rattle.step.proofs.effect.bnz.Goals as goal
 
 pub returns : goal.returns

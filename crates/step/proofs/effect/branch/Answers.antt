@@ -2,7 +2,6 @@
 -- Assumes nothing.
 use Rattle.word.proofs.Signed.{back, zero_is, zero-not}
 use Rattle.step.specs.Effect.{branch_of}
-use borrow.Author.Rules.{rules}
 use Rattle.step.proofs.effect.branch.Goals as goal
 
 pub returns-then-number-eq0 : goal.returns-then-number-eq0

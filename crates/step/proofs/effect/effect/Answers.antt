@@ -5,7 +5,6 @@ use borrow.Author.Tests.{eq-eqb, ne_eqb, lt-ltb, le-ltb}
 use Rattle.word.proofs.Signed.{back, back-ok}
 use Rattle.step.specs.Lent.{cells, Lent, lent, after, with_stack, with_cells}
 use Rattle.step.specs.Effect.{effect_of}
-use borrow.Author.Rules.{rules}
 use Rattle.step.proofs.effect.effect.Goals as goal
 
 pub returns-then-code-lt3 : goal.returns-then-code-lt3

@@ -1,7 +1,6 @@
 -- `step::effect::pop` meets its contract.
 -- Assumes nothing.
 use Rattle.step.specs.Effect.{pop_effect}
-use borrow.Author.Rules.{rules}
 use Rattle.step.proofs.effect.pop.Goals as goal
 
 pub returns : goal.returns

@@ -3,7 +3,6 @@
 use borrow.Author.Tests.{lt-ltb, le-ltb}
 use Rattle.word.proofs.Signed.{back}
 use Rattle.step.specs.Effect.{push_effect}
-use borrow.Author.Rules.{rules}
 use Rattle.step.proofs.effect.push.Goals as goal
 
 pub returns-then-depth-lt256 : goal.returns-then-depth-lt256

@@ -5,7 +5,6 @@ use mathlib.Core.Path.{◌≡◌, ◌∙◌, sym}
 use Rattle.word.proofs.Signed.{back-ok}
 use Rattle.step.specs.Cell.{cell_at, is_cell}
 use Rattle.step.specs.Effect.{store_effect}
-use borrow.Author.Rules.{rules}
 use Rattle.step.proofs.effect.store.Goals as goal
 
 pub returns-then-write : goal.returns-then-write

@@ -3,7 +3,6 @@
 use borrow.Author.Tests.{eq-eqb, ne_eqb}
 use Rattle.word.proofs.Signed.{back}
 use Rattle.step.specs.Effect.{sum_of}
-use borrow.Author.Rules.{rules}
 use Rattle.step.proofs.effect.sum.Goals as goal
 
 pub returns-then-code-eq1 : goal.returns-then-code-eq1

@@ -4,8 +4,7 @@
 use native.Mathlib.Omega.{arith}
 use mathlib.Core.Path.{refl, ap, ◌∙◌}
 use Rattle.stack.specs.declared.Slot.{Slot}
-use Rattle.step.proofs.Values.{Looking, values-missing, values-next, values-found}
-use borrow.Author.Rules.{rules}
+use Rattle.step.proofs.Values.{values-missing, values-next, values-found}
 use Rattle.step.proofs.find.call_values.Goals as goal
 
 pub returns-then-argument-ne0 : goal.returns-then-argument-ne0

@@ -1,11 +1,7 @@
 -- `step::find::call_values` meets its contract. The loop's invariant: what is still to be looked at decides. The measure is how many arguments
 -- are left.
 -- Assumes nothing.
-use native.Mathlib.Omega.{arith}
-use mathlib.Core.Path.{refl, ap, ◌∙◌}
-use Rattle.stack.specs.declared.Slot.{Slot}
-use Rattle.step.proofs.Values.{Looking, values-missing, values-next, values-found}
-use borrow.Author.Rules.{rules}
+use Rattle.step.proofs.Values.{Looking}
 use Rattle.step.proofs.find.call_values.Given as goal
 
 abbrev pub invariant-loop-left : goal.invariant-loop-left

@@ -3,7 +3,6 @@
 use borrow.Author.Tests.{eq-eqb, ne_eqb, lt-ltb, le-ltb}
 use Rattle.word.proofs.Signed.{back}
 use Rattle.step.specs.Find.{find_of}
-use borrow.Author.Rules.{rules}
 use Rattle.step.proofs.find.find.Goals as goal
 
 pub returns-then-code-lt3 : goal.returns-then-code-lt3

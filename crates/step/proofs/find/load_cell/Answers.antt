@@ -4,7 +4,6 @@ use native.Mathlib.Omega.{arith}
 use borrow.Author.Tests.{eq-eqb, ne_eqb}
 use Rattle.word.proofs.Signed.{back-ok}
 use Rattle.step.specs.Find.{load_cell}
-use borrow.Author.Rules.{rules}
 use Rattle.step.proofs.find.load_cell.Goals as goal
 
 pub returns-then-a-ne0 : goal.returns-then-a-ne0

@@ -2,7 +2,6 @@
 -- Assumes nothing.
 use borrow.Author.Tests.{eq-eqb, ne_eqb}
 use Rattle.step.specs.Find.{one_frame}
-use borrow.Author.Rules.{rules}
 use Rattle.step.proofs.find.one_frame.Goals as goal
 
 pub returns-then-a-eq1 : goal.returns-then-a-eq1

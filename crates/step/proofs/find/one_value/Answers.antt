@@ -2,7 +2,6 @@
 -- Assumes nothing.
 use borrow.Author.Tests.{eq-eqb, ne_eqb}
 use Rattle.step.specs.Find.{one_value}
-use borrow.Author.Rules.{rules}
 use Rattle.step.proofs.find.one_value.Goals as goal
 
 pub returns-then-a-ne0 : goal.returns-then-a-ne0

@@ -4,7 +4,6 @@ use native.Mathlib.Omega.{arith}
 use borrow.Author.Tests.{eq-eqb, ne_eqb}
 use Rattle.word.proofs.Signed.{back-ok}
 use Rattle.step.specs.Find.{store_cell}
-use borrow.Author.Rules.{rules}
 use Rattle.step.proofs.find.store_cell.Goals as goal
 
 pub returns-then-b-ne0 : goal.returns-then-b-ne0

@@ -2,7 +2,6 @@
 -- Assumes nothing.
 use borrow.Author.Tests.{eq-eqb, ne_eqb}
 use Rattle.step.specs.Find.{two_values}
-use borrow.Author.Rules.{rules}
 use Rattle.step.proofs.find.two_values.Goals as goal
 
 pub returns-then-b-ne0 : goal.returns-then-b-ne0

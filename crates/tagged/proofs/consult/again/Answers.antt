@@ -2,7 +2,6 @@
 -- Assumes nothing.
 use mathlib.Core.Path.{sym, ap, ◌∙◌}
 use Rattle.tagged.specs.Ruling.{ruling}
-use borrow.Author.Rules.{rules}
 use Rattle.tagged.proofs.consult.again.Goals as goal
 
 pub returns-then-matching : goal.returns-then-matching

@@ -9,7 +9,6 @@ use Rattle.kernel.specs.Words.{outcome_of, result_of}
 use Rattle.tagging.specs.Consult.{Five, consult}
 use Rattle.tagged.specs.Ruling.{five_of}
 use Rattle.tagged.proofs.Seven.{fault, consult-hit, consult-fault}
-use borrow.Author.Rules.{rules}
 use Rattle.tagged.proofs.consult.consult.Goals as goal
 
 pub returns-then-matching : goal.returns-then-matching

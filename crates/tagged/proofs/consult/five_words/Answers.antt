@@ -2,7 +2,6 @@
 -- Assumes nothing.
 use mathlib.Core.Path.{◌∙◌}
 use Rattle.word.proofs.Signed.{back, back-ok}
-use borrow.Author.Rules.{rules}
 use Rattle.tagged.proofs.consult.five_words.Goals as goal
 
 pub returns : goal.returns

@@ -3,7 +3,6 @@
 use mathlib.Core.Path.{ap, ◌∙◌}
 use Rattle.word.proofs.Signed.{back-ok}
 use Rattle.label.specs.Word.{low_label}
-use borrow.Author.Rules.{rules}
 use Rattle.tagged.proofs.consult.hit.Goals as goal
 
 pub returns : goal.returns

@@ -3,7 +3,6 @@
 use mathlib.Core.Path.{ap, ◌∙◌}
 use Rattle.word.specs.Number.{same_word}
 use Rattle.tagged.proofs.Seven.{same_test}
-use borrow.Author.Rules.{rules}
 use Rattle.tagged.proofs.consult.holds.Goals as goal
 
 pub returns : goal.returns

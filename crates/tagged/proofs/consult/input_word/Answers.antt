@@ -2,7 +2,6 @@
 -- Assumes nothing.
 use mathlib.Core.Path.{◌∙◌}
 use Rattle.word.proofs.Signed.{back-ok}
-use borrow.Author.Rules.{rules}
 use Rattle.tagged.proofs.consult.input_word.Goals as goal
 
 pub returns-then-supplied : goal.returns-then-supplied

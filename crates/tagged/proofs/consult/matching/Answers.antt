@@ -5,7 +5,6 @@ use mathlib.Core.Path.{refl, sym}
 use Rattle.tagging.specs.Consult.{matches}
 use Rattle.tagged.specs.declared.consult.Five.{Five}
 use Rattle.tagged.proofs.Seven.{tested}
-use borrow.Author.Rules.{rules}
 use Rattle.tagged.proofs.consult.matching.Goals as goal
 
 pub returns-then-holds-4 : goal.returns-then-holds-4

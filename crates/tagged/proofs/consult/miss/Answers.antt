@@ -6,7 +6,6 @@ use lib.IntN.{negsuc}
 use Rattle.word.proofs.Signed.{back-ok}
 use Rattle.tagged.specs.declared.consult.Five.{Five}
 use Rattle.tagged.proofs.Seven.{seven-written}
-use borrow.Author.Rules.{rules}
 use Rattle.tagged.proofs.consult.miss.Goals as goal
 
 pub returns : goal.returns

@@ -14,7 +14,6 @@ use Rattle.handler.specs.Space.{handle_space}
 use Rattle.tagging.specs.Consult.{tag, consult}
 use Rattle.tagged.specs.Ruling.{five_for, ruling_of}
 use Rattle.tagged.proofs.Acting.{act-halted, act-allowed, act-denied}
-use borrow.Author.Rules.{rules}
 use Rattle.tagged.proofs.run.act.Goals as goal
 
 pub returns-then-stop-ne-CARRIED : goal.returns-then-stop-ne-CARRIED

@@ -4,7 +4,7 @@
 use native.Mathlib.Omega.{arith}
 use mathlib.Core.Path.{◌≡◌, sym, ap₂, ◌∙◌}
 use mathlib.Core.List.{List}
-use Prim.Native.Nat.{ℕ, ◌-◌, ◌<◌, ◌≤◌}
+use Prim.Native.Nat.{ℕ, ◌<◌, ◌≤◌}
 use lib.IntN.{ℤ}
 use Rattle.word.specs.declared.number.Index.TheVariants.{At}
 use Rattle.word.specs.Number.{index_of}
@@ -14,7 +14,7 @@ use Rattle.step.specs.Lent.{cells, Lent, lent, after}
 use Rattle.engine.specs.Memory.{Output, output, environment}
 use Rattle.engine.specs.Act.{Acted, acted, act_of}
 use Rattle.engine.specs.Loop.{Done, done, word_at, operand_at}
-use Rattle.engine.proofs.Going.{SameLengths, same_start, same-on, same_lines, Going, Acting}
+use Rattle.engine.proofs.Going.{SameLengths, same_start, same-on, Acting}
 use Rattle.engine.proofs.Going.{going_start, going-stopped, going_on, going_end, going-outside, going-at}
 use Rattle.handler.specs.Kernel.{Result}
 use Rattle.handler.specs.Space.{handle_space}
@@ -23,7 +23,6 @@ use Rattle.tagging.specs.Consult.{Tag, tag}
 use Rattle.tagged.specs.declared.run.Left.{Left}
 use Rattle.tagged.specs.Ruling.{tag_words}
 use Rattle.tagged.proofs.Counts.{added, Few, few-none, few-more, faults-fit, steps-fit, act-added, act-few}
-use borrow.Author.Rules.{rules}
 use Rattle.tagged.proofs.run.go.Goals as goal
 
 -- what is handed back

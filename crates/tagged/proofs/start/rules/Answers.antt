@@ -1,7 +1,6 @@
 -- `tagged::start::rules` meets its contract, by the check of the table.
 -- Assumes nothing.
 use Rattle.tagged.proofs.Starting.{sized-accepted, sized-refused, found-is}
-use borrow.Author.Rules.{rules}
 use Rattle.tagged.proofs.start.rules.Goals as goal
 use Rattle.tagged.proofs.start.rules.Goals.{in-Accepted, in-Refused}
 

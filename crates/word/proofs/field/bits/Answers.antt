@@ -1,8 +1,7 @@
 -- `word::field::bits` meets its contract. The loop's invariant: the number is that of the bytes from `i` on. The measure is
 -- `i`. Assumes nothing.
-use Rattle.std.proofs.Common.{◌≡◌, ◌+◌, ◌-◌, ◌≤◌, sym, arith, rules}
+use Rattle.std.proofs.Common.{◌≡◌, ◌+◌, ◌-◌, sym, arith, rules}
 use mir.Facts.{Fits-8_64, Fits-shl, Fits-cat}
-use Rattle.word.specs.Field.{bits_at}
 use Rattle.word.proofs.Laws.Field.{bits_at-none, bits_at-down, bits_at-room}
 use Rattle.word.proofs.field.bits.Goals as goal
 

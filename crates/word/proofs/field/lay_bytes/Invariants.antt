@@ -1,9 +1,8 @@
 -- `word::field::lay_bytes` meets its contract. The loop's invariant: what is left to write, laid on what is written, is all of it laid on
 -- what was there. The measure is how many bytes are left. Assumes nothing.
-use Rattle.std.proofs.Common.{◌≡◌, ◌+◌, ◌-◌, ◌≤◌, length, refl, ◌∙◌, mod-lt, arith, length-set, rules}
+use Rattle.std.proofs.Common.{◌≡◌, ◌+◌, ◌-◌, ◌≤◌, length}
 use Rattle.word.specs.Lay.{laid_at}
 use Rattle.word.specs.Digits.{digits_of}
-use Rattle.word.proofs.Laws.Text.{digits-start, digits-stored, digits-written}
 use Rattle.word.proofs.field.lay_bytes.Given as goal
 
 abbrev pub invariant-loop-i : goal.invariant-loop-i

@@ -1,6 +1,6 @@
 -- `word::field::put_byte` meets its contract: the lowest bytes of the word's bits.
 -- Assumes nothing.
-use Rattle.std.proofs.Common.{refl, rules}
+use Rattle.std.proofs.Common.{refl}
 use Rattle.word.proofs.Signed.{back}
 use Rattle.word.proofs.Laws.Field.{bytes_low}
 use Rattle.word.proofs.field.put_byte.Goals as goal

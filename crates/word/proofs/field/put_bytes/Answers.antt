@@ -1,6 +1,6 @@
 -- `word::field::put_bytes` meets its contract: the test of the room decides.
 -- Assumes nothing.
-use Rattle.std.proofs.Common.{◌+◌, ◌≤◌, length, sym, ◌∙◌, arith, rules}
+use Rattle.std.proofs.Common.{◌+◌, ◌≤◌, length, sym, ◌∙◌, arith}
 use Rattle.word.specs.Digits.{digits_of}
 use Rattle.word.proofs.Laws.Test.{leb-passed, leb-failed}
 use Rattle.word.proofs.Laws.Digits.{digits-length}

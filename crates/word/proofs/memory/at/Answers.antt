@@ -1,6 +1,6 @@
 -- `word::memory::at` meets its contract: past the end there is the default.
 -- Assumes nothing.
-use Rattle.std.proofs.Common.{pos, sym, rules}
+use Rattle.std.proofs.Common.{pos, sym}
 use lib.ListN.{get_or-eq_default}
 use Rattle.word.proofs.memory.at.Goals as goal
 

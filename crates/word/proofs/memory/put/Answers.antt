@@ -1,6 +1,6 @@
 -- `word::memory::put` meets its contract: past the end nothing is set.
 -- Assumes nothing.
-use Rattle.std.proofs.Common.{sym, rules}
+use Rattle.std.proofs.Common.{sym}
 use lib.Seq.{set_out}
 use Rattle.word.proofs.memory.put.Goals as goal
 

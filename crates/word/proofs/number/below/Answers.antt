@@ -1,6 +1,6 @@
 -- `word::number::below` meets its contract: below 2^63 the word's bits are tested, above the word is taken as a natural number.
 -- Assumes nothing.
-use Rattle.std.proofs.Common.{◌≡◌, ap, ◌∙◌, arith, rules, le-ltb, lt-ltb}
+use Rattle.std.proofs.Common.{◌≡◌, ap, ◌∙◌, arith, le-ltb, lt-ltb}
 use Rattle.word.specs.Number.{index_of}
 use Rattle.word.specs.Wrap.{residue, Signed}
 use Rattle.word.proofs.Signed.{back}

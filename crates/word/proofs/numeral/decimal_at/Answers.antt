@@ -1,6 +1,6 @@
 -- `word::numeral::decimal_at` meets its contract: the test for a minus decides.
 -- Assumes nothing.
-use Rattle.std.proofs.Common.{◌+◌, true, false, drop, sym, ap, ◌∙◌, arith, rules}
+use Rattle.std.proofs.Common.{◌+◌, true, false, drop, sym, ap, ◌∙◌, arith}
 use Rattle.word.specs.Numeral.{leading_digits, decimal_at, capped_decimal}
 use Rattle.word.proofs.Laws.Reading.{minus-within, decimal-kept}
 use Rattle.word.proofs.numeral.decimal_at.Goals as goal

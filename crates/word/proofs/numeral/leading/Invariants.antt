@@ -1,7 +1,7 @@
 -- `word::numeral::leading` meets its contract. The loop's invariant: what is left of the digits, after what is kept, comes to what all of
 -- them come to. The measure is what is left of the text. Assumes nothing.
-use Rattle.std.proofs.Common.{◌-◌, length, get_or, refl, arith, rules}
-use Rattle.word.proofs.Laws.Reading.{digit-is, digit-below, digit-above, Keeps, keeps-end, keeps-other, keeps-more}
+use Rattle.std.proofs.Common.{◌-◌, length}
+use Rattle.word.proofs.Laws.Reading.{Keeps}
 use Rattle.word.proofs.numeral.leading.Given as goal
 
 abbrev pub invariant-loop-i : goal.invariant-loop-i

@@ -1,6 +1,6 @@
 -- `word::numeral::more` meets its contract.
 -- Assumes nothing.
-use Rattle.std.proofs.Common.{◌^◌, refl, rules, le-ltb, lt-ltb}
+use Rattle.std.proofs.Common.{◌^◌, rules, le-ltb, lt-ltb}
 use Rattle.word.specs.Numeral.{capped_more}
 use Rattle.word.proofs.numeral.more.Goals as goal
 

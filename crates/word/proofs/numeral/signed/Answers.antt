@@ -1,6 +1,6 @@
 -- `word::numeral::signed` meets its contract: the sign and the size decide.
 -- Assumes nothing.
-use Rattle.std.proofs.Common.{◌-◌, pos, negsuc, arith, w64, rules}
+use Rattle.std.proofs.Common.{◌-◌, pos, negsuc, w64, rules}
 use mir.Facts.{to_z_pos}
 use Rattle.word.specs.declared.exact.Exact.TheVariants.{Number, Outside}
 use Rattle.word.proofs.Laws.Reading.{decimal-missing, minus_is, plus-is, beyond-minus, beyond-plus}

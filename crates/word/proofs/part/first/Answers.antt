@@ -1,6 +1,6 @@
 -- `word::part::first` meets its contract: the first bytes, all of them where there are no more.
 -- Assumes nothing.
-use Rattle.std.proofs.Common.{sym, arith, length-take-le, take_all, rules}
+use Rattle.std.proofs.Common.{sym, arith, length-take-le, take_all}
 use Rattle.word.proofs.part.first.Goals as goal
 
 pub slice_bounds-result-end : goal.slice_bounds-result-end

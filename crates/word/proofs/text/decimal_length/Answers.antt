@@ -1,6 +1,6 @@
 -- `word::text::decimal_length` meets its contract: the test of the sign decides.
 -- Assumes nothing.
-use Rattle.std.proofs.Common.{length, sym, ap, ◌∙◌, arith, rules}
+use Rattle.std.proofs.Common.{length, sym, ap, ◌∙◌, arith}
 use Rattle.word.proofs.Signed.{back}
 use Rattle.word.proofs.Laws.Numeral.{numeral-length, digit_count-le}
 use Rattle.word.proofs.Laws.Text.{decimal-negative, decimal-natural}

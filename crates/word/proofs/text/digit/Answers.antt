@@ -1,6 +1,6 @@
 -- `word::text::digit` meets its contract.
 -- Assumes nothing.
-use Rattle.std.proofs.Common.{sym, rules}
+use Rattle.std.proofs.Common.{sym}
 use Rattle.word.proofs.Laws.Numeral.{digit_char-lower, digit_char-upper}
 use Rattle.word.proofs.text.digit.Goals as goal
 

@@ -1,7 +1,7 @@
 -- `word::text::digit_count` meets its contract. The loop's invariant: so many digits are too few, or all but one. The measure is how many
 -- counts are left. Assumes nothing.
-use Rattle.std.proofs.Common.{◌-◌, arith, rules}
-use Rattle.word.proofs.Laws.Text.{Counting, counting-start, counting-room, counting_more, counting-end, counting-most}
+use Rattle.std.proofs.Common.{◌-◌}
+use Rattle.word.proofs.Laws.Text.{Counting}
 use Rattle.word.proofs.text.digit_count.Given as goal
 
 abbrev pub invariant-loop-count : goal.invariant-loop-count

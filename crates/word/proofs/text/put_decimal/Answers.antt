@@ -1,6 +1,6 @@
 -- `word::text::put_decimal` meets its contract: the test of the sign decides.
 -- Assumes nothing.
-use Rattle.std.proofs.Common.{◌+◌, ◌≤◌, ◌∷◌, length, sym, ◌∙◌, arith, length-set, rules}
+use Rattle.std.proofs.Common.{◌+◌, ◌≤◌, ◌∷◌, length, sym, ◌∙◌, arith, length-set}
 use Rattle.word.specs.Text.{numeral}
 use Rattle.word.proofs.Laws.Test.{leb-passed, leb-failed}
 use Rattle.word.proofs.Signed.{back}

@@ -1,9 +1,8 @@
 -- `word::text::put_digits` meets its contract. The loop's invariant: what is left to write, laid on what is written, is the
 -- whole numeral laid on what was there. The measure is how many digits are left. Assumes nothing.
-use Rattle.std.proofs.Common.{◌≡◌, ◌≤◌, length, refl, ◌∙◌, mod-lt, arith, length-set, rules}
+use Rattle.std.proofs.Common.{◌≡◌, ◌≤◌, length}
 use Rattle.word.specs.Lay.{laid_at}
 use Rattle.word.specs.Text.{numeral}
-use Rattle.word.proofs.Laws.Text.{numeral-stored, numeral-written}
 use Rattle.word.proofs.text.put_digits.Given as goal
 
 abbrev pub invariant-loop-i : goal.invariant-loop-i

@@ -1,6 +1,5 @@
 -- `word::text::put_hex` meets its contract: a numeral of eight digits in base 16.
 -- Assumes nothing.
-use Rattle.std.proofs.Common.{rules}
 use Rattle.word.specs.Text.{hexadecimal}
 use Rattle.word.proofs.text.put_hex.Goals as goal
 

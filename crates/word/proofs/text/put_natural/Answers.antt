@@ -1,6 +1,5 @@
 -- `word::text::put_natural` meets its contract: a numeral in base 10 of as many digits as the number has.
 -- Assumes nothing.
-use Rattle.std.proofs.Common.{rules}
 use Rattle.word.specs.Text.{natural}
 use Rattle.word.proofs.text.put_natural.Goals as goal
 

@@ -1,6 +1,5 @@
 -- `word::wrap::add` meets its contract: the sum of two words, modulo 2^64, is that of their bits.
 -- Assumes nothing.
-use Rattle.std.proofs.Common.{rules}
 use Rattle.word.proofs.Signed.{back, back-ok}
 use Rattle.word.proofs.Laws.Wrap.{add_wrap-signed}
 use Rattle.word.proofs.wrap.add.Goals as goal

@@ -1,6 +1,5 @@
 -- `word::wrap::sub` meets its contract: the difference of two words, modulo 2^64, is that of their bits.
 -- Assumes nothing.
-use Rattle.std.proofs.Common.{rules}
 use Rattle.word.proofs.Signed.{back, back-ok}
 use Rattle.word.proofs.Laws.Wrap.{sub_wrap-signed}
 use Rattle.word.proofs.wrap.sub.Goals as goal

@@ -1,12 +1,7 @@
 -- `policy::row::Cache::is_empty` meets its contract. The loop's invariant: the row is empty where the words that are left are zeros.
 -- Assumes nothing.
-use mathlib.Core.Path.{◌∙◌, sym, ap}
 use Prim.Native.Nat.{◌-◌}
-use native.Mathlib.Omega.{arith}
-use borrow.Author.Rules.{rules}
-use Rattle.word.proofs.Signed.{back-ok}
-use Rattle.word.specs.Number.{is_zero}
-use Rattle.policy.proofs.Rows.{Emptying, emptying-start, emptying-next, emptying-stop, emptying-end}
+use Rattle.policy.proofs.Rows.{Emptying}
 use Rattle.policy.proofs.row.Cache.is_empty.Given as goal
 
 abbrev pub invariant-loop-i : goal.invariant-loop-i

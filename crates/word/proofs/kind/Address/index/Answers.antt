@@ -1,6 +1,5 @@
 -- `word::kind::Address::index` meets its contract: an address is a word.
 -- Assumes nothing.
-use Rattle.std.proofs.Common.{rules}
 use Rattle.word.proofs.Signed.{back-ok}
 use Rattle.word.proofs.kind.Address.index.Goals as goal
 

@@ -1,6 +1,5 @@
 -- `word::kind::Pc::index` meets its contract: a command number is a word.
 -- Assumes nothing.
-use Rattle.std.proofs.Common.{rules}
 use Rattle.word.proofs.Signed.{back-ok}
 use Rattle.word.proofs.kind.Pc.index.Goals as goal
 

@@ -1,6 +1,6 @@
 -- `word::kind::Pc::offset` meets its contract: a command number is a word.
 -- Assumes nothing.
-use Rattle.std.proofs.Common.{◌∙◌, rules}
+use Rattle.std.proofs.Common.{◌∙◌}
 use Rattle.word.proofs.Signed.{back, back-ok}
 use Rattle.word.proofs.kind.Pc.offset.Goals as goal
 
