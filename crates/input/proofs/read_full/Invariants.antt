@@ -1,0 +1,9 @@
+-- The loop's invariant: what was read lies in the space, whose length stays. The measure is how much is left to fill.
+use Rattle.std.proofs.Common.{length, ◌-◌, ◌≤◌, ◌≡◌}
+use Rattle.input.proofs.read_full.Given as goal
+
+abbrev pub invariant-loop-done : goal.invariant-loop-done
+invariant-loop-done g l = (length l.space ≡ length l.initial.space) × (l.done ≤ length l.space)
+
+abbrev pub decreases-loop-done : goal.decreases-loop-done
+decreases-loop-done g l = length l.space - l.done
