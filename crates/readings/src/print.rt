@@ -1,56 +1,52 @@
 // What the program writes: text, numbers and labels on standard output.
 use label::Label;
 use program::Refusal;
+use std::io;
 
-pub(crate) fn text(bytes: &[u8]) {
-    io::write_all(1, bytes);
+pub(crate) fn text(rt: &impl Print, bytes: &[u8]) -> io::Result<()> {
+    rt.write_all(bytes)
 }
 
-pub(crate) fn count(n: u64) {
-    io::print_decimal(1, n);
+pub(crate) fn count(rt: &impl Print, n: u64) -> io::Result<()> {
+    rt.print(n)
 }
 
-pub(crate) fn number(n: i64) {
-    if n < 0 {
-        text(b"-");
-        count(word::wrap::to_bits(word::wrap::sub(0, n)));
-    } else {
-        count(word::wrap::to_bits(n));
-    }
+pub(crate) fn number(rt: &impl Print, n: i64) -> io::Result<()> {
+    rt.print(n)
 }
 
 // A number with a label, as its number.
-pub(crate) fn atom(n: i64, l: Label) {
-    number(n);
-    label(l);
+pub(crate) fn atom(rt: &impl Print, n: i64, l: Label) -> io::Result<()> {
+    number(rt, n)?;
+    label(rt, l)
 }
 
-pub(crate) fn label(l: Label) {
-    text(b" label ");
-    count(l.0 as u64);
+pub(crate) fn label(rt: &impl Print, l: Label) -> io::Result<()> {
+    text(rt, b" label ")?;
+    count(rt, l.0 as u64)
 }
 
 // Words in brackets.
-pub(crate) fn words(run: &[i64]) {
-    text(b"(");
+pub(crate) fn words(rt: &impl Print, run: &[i64]) -> io::Result<()> {
+    text(rt, b"(")?;
     let mut i: usize = 0;
     while i < run.len() {
         if 0 < i {
-            text(b",");
+            text(rt, b",")?;
         }
-        number(word::memory::at(run, i));
+        number(rt, word::memory::at(run, i))?;
         i += 1;
     }
-    text(b")");
+    text(rt, b")")
 }
 
-pub(crate) fn refused(r: Refusal) {
-    text(b"refused ");
-    count(r.code);
-    text(b" at ");
-    count(r.position as u64);
+pub(crate) fn refused(rt: &impl Print, r: Refusal) -> io::Result<()> {
+    text(rt, b"refused ")?;
+    count(rt, r.code)?;
+    text(rt, b" at ")?;
+    count(rt, r.position as u64)
 }
 
-pub(crate) fn line() {
-    text(b"\n");
+pub(crate) fn line(rt: &impl Print) -> io::Result<()> {
+    text(rt, b"\n")
 }

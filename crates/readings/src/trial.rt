@@ -5,85 +5,97 @@ use engine::{Answer, Clearances, Line, Ran};
 use machine::Kind;
 use policy::row::Cache;
 use program::Refusal;
+use std::io;
 use tagged::Tagged;
 
-fn counted(name: &[u8], n: u64) {
-    print::text(name);
-    print::count(n);
+fn counted(rt: &impl Print, name: &[u8], n: u64) -> io::Result<()> {
+    print::text(rt, name)?;
+    print::count(rt, n)
 }
 
-fn line(x: Line) {
+fn line(rt: &impl Print, x: Line) -> io::Result<()> {
     let kind = x.kind;
-    print::text(b" (page ");
-    print::number(x.page);
-    print::text(b": ");
+    print::text(rt, b" (page ")?;
+    print::number(rt, x.page)?;
+    print::text(rt, b": ")?;
     match kind {
-        Kind::Number => print::number(x.number),
-        Kind::End => print::text(b"end"),
+        Kind::Number => print::number(rt, x.number)?,
+        Kind::End => print::text(rt, b"end")?,
     }
-    print::label(x.label);
-    print::text(b")");
+    print::label(rt, x.label)?;
+    print::text(rt, b")")
 }
 
-fn lines(numbers: &[i64], labels: &[i64], kinds: &[i64], pages: &[i64], count: usize) {
+fn lines(
+    rt: &impl Print,
+    numbers: &[i64],
+    labels: &[i64],
+    kinds: &[i64],
+    pages: &[i64],
+    count: usize,
+) -> io::Result<()> {
     let mut i: usize = 0;
     while i < count {
-        line(engine::line_at(numbers, labels, kinds, pages, i));
+        line(rt, engine::line_at(numbers, labels, kinds, pages, i))?;
         i += 1;
     }
+    Ok(())
 }
 
-fn stopped(ran: Ran) {
+fn stopped(rt: &impl Print, ran: Ran) -> io::Result<()> {
     let m = ran.machine;
-    counted(b"stop ", ran.stop);
-    counted(b", steps ", ran.steps);
-    print::text(b", place ");
-    print::atom(m.pc.0, m.label);
-    counted(b", depth ", m.depth as u64);
-    counted(b", lines ", m.lines as u64);
+    counted(rt, b"stop ", ran.stop)?;
+    counted(rt, b", steps ", ran.steps)?;
+    print::text(rt, b", place ")?;
+    print::atom(rt, m.pc.0, m.label)?;
+    counted(rt, b", depth ", m.depth as u64)?;
+    counted(rt, b", lines ", m.lines as u64)
 }
 
-fn refused(r: Refusal, same: bool) {
-    print::refused(r);
+fn refused(rt: &impl Print, r: Refusal, same: bool) -> io::Result<()> {
+    print::refused(rt, r)?;
     if same {
-        print::text(b", all as it came");
+        print::text(rt, b", all as it came")
     } else {
-        print::text(b", CHANGED");
+        print::text(rt, b", CHANGED")
     }
 }
 
 fn report(
+    rt: &impl Print,
     answer: Answer,
     same: bool,
     numbers: &[i64],
     labels: &[i64],
     kinds: &[i64],
     pages: &[i64],
-) {
+) -> io::Result<()> {
     match answer {
-        Answer::Refused(r) => refused(r, same),
+        Answer::Refused(r) => refused(rt, r, same),
         Answer::Stopped(ran) => {
-            stopped(ran);
-            lines(numbers, labels, kinds, pages, ran.machine.lines);
+            let count = ran.machine.lines;
+            stopped(rt, ran)?;
+            lines(rt, numbers, labels, kinds, pages, count)
         }
     }
 }
 
 fn report_tagged(
+    rt: &impl Print,
     r: Tagged,
     same: bool,
     numbers: &[i64],
     labels: &[i64],
     kinds: &[i64],
     pages: &[i64],
-) {
+) -> io::Result<()> {
     let answer = r.answer;
-    report(answer, same, numbers, labels, kinds, pages);
-    counted(b", faults ", r.faults);
-    counted(b", kernel steps ", r.kernel);
-    print::text(b", rule memory ");
-    print::words(&r.cache.words);
-    print::line();
+    report(rt, answer, same, numbers, labels, kinds, pages)?;
+    counted(rt, b", faults ", r.faults)?;
+    counted(rt, b", kernel steps ", r.kernel)?;
+    print::text(rt, b", rule memory ")?;
+    print::words(rt, &r.cache.words)?;
+    print::line(rt)
 }
 
 // All lent words as one number.
@@ -105,13 +117,14 @@ fn lent(
 
 // The tag engine under the standard table, with space for 257 commands, the handler and three lines.
 fn on(
+    rt: &impl Print,
     sheet: &[u8],
     values: &mut [i64],
     labels: &mut [i64],
     clearances: Clearances,
     cache: Cache,
     fuel: u64,
-) {
+) -> io::Result<()> {
     let table = policy::standard_table::bytes();
     let mut program = [-7i64; 514];
     let mut stack = [-7i64; 768];
@@ -162,18 +175,27 @@ fn on(
         ),
         &handler,
     );
-    report_tagged(r, before == after, &numbers, &line_labels, &kinds, &pages);
+    report_tagged(
+        rt,
+        r,
+        before == after,
+        &numbers,
+        &line_labels,
+        &kinds,
+        &pages,
+    )
 }
 
 // The plain engine, so too.
 fn plainly(
+    rt: &impl Print,
     sheet: &[u8],
     values: &mut [i64],
     labels: &mut [i64],
     clearances: Clearances,
     fuel: u64,
-) {
-    print::text(b"  plain engine: ");
+) -> io::Result<()> {
+    print::text(rt, b"  plain engine: ")?;
     let mut program = [-7i64; 514];
     let mut stack = [-7i64; 768];
     let mut numbers = [-7i64; 3];
@@ -214,45 +236,73 @@ fn plainly(
         &pages,
     );
     report(
+        rt,
         answer,
         before == after,
         &numbers,
         &line_labels,
         &kinds,
         &pages,
-    );
-    print::line();
+    )?;
+    print::line(rt)
 }
 
 // Both on document 01's two cells, the second with another number where wanted.
-pub(crate) fn on_pages(name: &[u8], sheet: &[u8], clearances: Clearances, second: i64, fuel: u64) {
-    print::text(name);
+pub(crate) fn on_pages(
+    rt: &impl Print,
+    name: &[u8],
+    sheet: &[u8],
+    clearances: Clearances,
+    second: i64,
+    fuel: u64,
+) -> io::Result<()> {
+    print::text(rt, name)?;
     on(
+        rt,
         sheet,
         &mut [7i64, second],
         &mut [0i64, 1],
         clearances,
         Cache::empty(),
         fuel,
-    );
-    plainly(sheet, &mut [7i64, second], &mut [0i64, 1], clearances, fuel);
+    )?;
+    plainly(
+        rt,
+        sheet,
+        &mut [7i64, second],
+        &mut [0i64, 1],
+        clearances,
+        fuel,
+    )
 }
 
 // With every page cleared for all owners.
-pub(crate) fn on_two(name: &[u8], sheet: &[u8], second: i64, fuel: u64) {
-    on_pages(name, sheet, Clearances::all(), second, fuel);
+pub(crate) fn on_two(
+    rt: &impl Print,
+    name: &[u8],
+    sheet: &[u8],
+    second: i64,
+    fuel: u64,
+) -> io::Result<()> {
+    on_pages(rt, name, sheet, Clearances::all(), second, fuel)
 }
 
 // From a rule memory.
-pub(crate) fn on_row(name: &[u8], sheet: &[u8], words: [i64; 7]) {
-    print::text(name);
+pub(crate) fn on_row(
+    rt: &impl Print,
+    name: &[u8],
+    sheet: &[u8],
+    words: [i64; 7],
+) -> io::Result<()> {
+    print::text(rt, name)?;
     let cache = Cache { words };
     on(
+        rt,
         sheet,
         &mut [7i64, 5],
         &mut [0i64, 1],
         Clearances::all(),
         cache,
         1000,
-    );
+    )
 }
