@@ -5,7 +5,7 @@
 set -eu
 cd "$(dirname "$0")/.."
 . wrapper/archive.sh
-[ -x target/bin/page ] || rt check page >&2
+[ -x crates/page/out/page ] || (cd crates/page && rt run < /dev/null) >&2
 if [ -n "$LUVRODAN_ARCHIVE" ]; then
     cargo run --offline --release --quiet -p bench --features engine
 else

@@ -35,14 +35,14 @@ done
 is_label "$reader" || fail "$reader: not a set of owners"
 job+="\x42$(field "$reader" 4)\x43"
 
-if [ ! -x target/bin/assemble ]; then
+if [ ! -x crates/assemble/out/assemble ]; then
     echo "job.sh: proving and building assemble, which takes some minutes" >&2
-    rt check assemble >&2 || exit 1
+    (cd crates/assemble && rt run < /dev/null) >&2 || exit 1
 fi
 
 # `assemble` has nothing to say of a text that it reads
 status=0
-target/bin/assemble <&3 > "$scratch/sheet" 2> "$scratch/said" || status=$?
+crates/assemble/out/assemble <&3 > "$scratch/sheet" 2> "$scratch/said" || status=$?
 if read -r what number line < "$scratch/said"; then
     [ "$what" = refused ] || fail "$name: $(cat "$scratch/said")"
     case $number in

@@ -5,7 +5,7 @@
 set -Eeuo pipefail
 cd "$(dirname "$0")/.."
 for program in page assemble; do
-    [ -x "target/bin/$program" ] || { echo "target/bin/$program is missing: rt check $program" >&2; exit 1; }
+    [ -x "crates/$program/out/$program" ] || { echo "crates/$program/out/$program is missing: rt run in crates/$program" >&2; exit 1; }
 done
 scratch=$(mktemp -d)
 trap 'rm -rf "$scratch"' EXIT
@@ -15,7 +15,7 @@ cells=(412:0 -985:1 1180:2)
 # berth NAME READER PAGE: the job file of that name, and its page with printf's escapes
 berth() {
     bash examples/job.sh examples/berth.txt "$2" "${cells[@]}" | cmp - "examples/berth-$1.job"
-    [ "$(target/bin/page < "examples/berth-$1.job")" = "$(printf %b "$3")" ]
+    [ "$(crates/page/out/page < "examples/berth-$1.job")" = "$(printf %b "$3")" ]
 }
 berth public 0 '0 412 00000000\n0 end 00000000'
 berth terminal 1 '0 412 00000000\n1 1397 00000001\n0 end 00000000'
@@ -24,7 +24,7 @@ berth master 3 '0 412 00000000\n1 1397 00000001\n0 217 00000003\n0 end 00000000'
 # `page` closes no page, and prints all that the sheet writes
 sed '$s/.*/OutputTo 1/' examples/berth.txt | cmp - examples/berth-closed.txt
 bash examples/job.sh examples/berth-closed.txt 3 "${cells[@]}" > "$scratch/closed.job"
-[ "$(target/bin/page < "$scratch/closed.job")" = "$(printf %b '0 412 00000000\n1 1397 00000001\n1 217 00000003\n0 end 00000000')" ]
+[ "$(crates/page/out/page < "$scratch/closed.job")" = "$(printf %b '0 412 00000000\n1 1397 00000001\n1 217 00000003\n0 end 00000000')" ]
 
 # the blocks of the README
 sed -n 's/^    //p' README.md > "$scratch/blocks"

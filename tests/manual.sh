@@ -1,5 +1,6 @@
 #!/usr/bin/env bash
-# docs/MANUAL.md is held to what stands beside it. Needs target/bin/page, assemble and listing (rt check page, and so on).
+# docs/MANUAL.md is held to what stands beside it. Needs the programs page, assemble and listing in
+# their out/ (rt ci, or rt run in crates/page and so on).
 # - Its examples: a block ```job has a job in hexadecimal bytes, the block ```page after it what `page` must print. After a block ```text
 #   stands its ```sheet, the bytes that `assemble` must write, and then the ```listing that `listing` must make of them; or ```refused, what
 #   `assemble` must say. What follows a # in bytes says its line's bytes in words: items of a job and commands of a sheet between commas,
@@ -15,7 +16,7 @@ cd "$(dirname "$0")/.." || exit 2
 manual=docs/MANUAL.md
 header=include/luvrodan.h
 for program in page assemble listing; do
-    [ -x "target/bin/$program" ] || { echo "target/bin/$program is missing: rt check $program" >&2; exit 1; }
+    [ -x "crates/$program/out/$program" ] || { echo "crates/$program/out/$program is missing: rt run in crates/$program" >&2; exit 1; }
 done
 scratch=$(mktemp -d)
 trap 'rm -rf "$scratch"' EXIT
@@ -33,7 +34,7 @@ while IFS='|' read -r _ c n w _; do
     told+="$(xargs <<< "${code[$n]} $n ${widths[$n]}")"$'\n'
     names+=", $n"
 done < <(grep -E '^\| `[01][0-9a-f]` \| [A-Z][A-Za-z]+ \| ([0-9] bytes?(, [0-9] bytes?)* )?\|' "$manual")
-defined=$(sed -nE 's/^description [A-Za-z]+ = row 0x([0-9a-f]+) "([A-Za-z]+)" (bare|Page|Counts|\(Signed [0-9]+\)) .*/\1 \2 \3/p' \
+defined=$(sed -nE 's/^description [a-z_]+ = row 0x([0-9a-f]+) "([A-Za-z]+)" (bare|Page|Counts|\(Signed [0-9]+\)) .*/\1 \2 \3/p' \
     crates/program/specs/Command.antt | sed -E 's/ bare$//; s/ Page$/ 1/; s/ Counts$/ 1 1/; s/ \(Signed ([0-9]+)\)$/ \1/')
 [ -n "$defined" ] && [ "${told%$'\n'}" = "$defined" ] || wrong "the table of commands is not that of crates/program/specs/Command.antt"
 grep -qF "(${names#, })" "$header" || wrong "the names of the commands are not those of $header"
@@ -88,7 +89,7 @@ words() {
 
 # held PROGRAM INPUT OUTPUT ERROR: the program writes these for the input
 held() {
-    if ! "target/bin/$1" < "$2" > "$scratch/got" 2> "$scratch/said"; then
+    if ! "crates/$1/out/$1" < "$2" > "$scratch/got" 2> "$scratch/said"; then
         wrong "$1 ended with a failure on ${2##*/}"
     elif ! cmp -s "$3" "$scratch/got" || ! cmp -s "$4" "$scratch/said"; then
         wrong "$1 writes something else for ${2##*/}:"
@@ -164,7 +165,7 @@ while IFS='|' read -r _ line answer _; do
         held assemble "$scratch/line" /dev/null "$scratch/answer"
     else
         echo "${answer:2:-2}" > "$scratch/answer"
-        target/bin/assemble < "$scratch/line" > "$scratch/bytes"
+        crates/assemble/out/assemble < "$scratch/line" > "$scratch/bytes"
         held listing "$scratch/bytes" "$scratch/answer" /dev/null
     fi
 done < <(sed -n '/^| line | is read as |/,/^$/{//d; /^|---/d; p;}' "$manual")
@@ -172,11 +173,11 @@ done < <(sed -n '/^| line | is read as |/,/^$/{//d; /^|---/d; p;}' "$manual")
 
 # the standard rules
 rules=$(sed -nE 's/^\| [A-Z][A-Za-z, ]+ \|.*\| `(1[0-9 ]*)` \|$/\1/p' "$manual" | xargs)
-table=$(sed -nE 's/^ *0x([0-9a-f]+),$/\1/p' crates/policy/src/standard_table.rt | xargs)
+table=$(sed -nE '/^ *0x/s/0x([0-9a-f]+),/\1/gp' crates/policy/src/standard_table.rt | xargs)
 [ -n "$table" ] && [ "$rules" = "$table" ] || wrong "the bytes of the standard rules are not the standard table: $rules"
 length=$(wc -w <<< "$table")
 grep -qF "The standard table has $length bytes" "$manual" || wrong "the standard table has $length bytes"
-kernel=$(sed -nE 's/^handlerSpace = zeros \(2 \* ([0-9]+)\)$/\1/p' crates/report/specs/Page.antt)
+kernel=$(sed -nE 's/^handler_space = zeros \(2 \* ([0-9]+)\)$/\1/p' crates/report/specs/Page.antt)
 grep -qF "standard table's handler has ${kernel:-?} commands" "$manual" || wrong "the standard table's handler has $kernel commands"
 
 # same WHAT IN-THE-MANUAL IN-THE-HEADER: the same words, whatever their order, and how often they stand there
@@ -207,11 +208,11 @@ while read -r name value; do
     grep -Eq "^#define $name $value( |\$)" "$header" || wrong "$name is not $value in $header"
 done < "$scratch/limits"
 [ "$limits" -gt 0 ] || wrong "no limits"
-commands=$(sed -nE 's/^commandLimit = ([0-9]+)$/\1/p' crates/program/specs/Decode.antt)
+commands=$(sed -nE 's/^command_limit = ([0-9]+)$/\1/p' crates/program/specs/Decode.antt)
 while read -r name limit; do
-    each=$(sed -nE "s/^$limit = ([0-9]+) \* commandLimit\$/\1/p" crates/assembly/specs/Claim.antt)
+    each=$(sed -nE "s/^$limit = ([0-9]+) \* command_limit\$/\1/p" crates/assembly/specs/Claim.antt)
     grep -qx "$name $((each * commands))" "$scratch/limits" || wrong "$name is not $limit of crates/assembly/specs/Claim.antt"
-done <<< $'LUVRODAN_SHEET_LIMIT sheetLimit\nLUVRODAN_TEXT_LIMIT listingLimit'
+done <<< $'LUVRODAN_SHEET_LIMIT sheet_limit\nLUVRODAN_TEXT_LIMIT listing_limit'
 taken=$(sed -nE 's/^\| .*`assemble` takes \| ([0-9,]+) \|.*/\1/p' "$manual" | tr -d ,)
 grep -qF "the text is longer than $taken bytes" crates/assemble/src/main.rt || wrong "assemble does not take $taken bytes"
 short=$(sed -nE 's/^\| ([0-9]+) \| a buffer that is too short.* \| ([0-9]+) \|.*/\1 \2/p' "$manual")

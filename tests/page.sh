@@ -2,13 +2,13 @@
 # The program `page` on the cases of tests/page/. A case is a file of three parts: lines that begin with # say what it shows; lines
 # that begin with 'job:' hold the job in hexadecimal bytes, where N*( .. ) repeats what stands between N times; what follows the line
 # 'page:' is what `page` must print, where a line N*( .. ) stands for N lines of what stands between.
-# Needs target/bin/page (rt check page). RUNNER may hold a command to run it under:
+# Needs crates/page/out/page (rt ci, or rt run in crates/page). RUNNER may hold a command to run it under:
 #     RUNNER='valgrind -q --error-exitcode=9' bash tests/page.sh
 set -u
 cd "$(dirname "$0")/.." || exit 2
 . tests/page/bytes.sh
-page=target/bin/page
-[ -x "$page" ] || { echo "$page is missing: rt check page" >&2; exit 1; }
+page=crates/page/out/page
+[ -x "$page" ] || { echo "$page is missing: rt run in crates/page" >&2; exit 1; }
 scratch=$(mktemp -d)
 trap 'rm -rf "$scratch"' EXIT
 failed=0

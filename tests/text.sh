@@ -1,13 +1,13 @@
 #!/usr/bin/env bash
 # The programs `assemble` and `listing`: texts with their sheets; and what is refused, of which standard output has nothing. Texts are
 # written with printf's escapes, sheets in hexadecimal bytes, where N*( .. ) repeats what stands between N times.
-# Needs target/bin/assemble and target/bin/listing (rt check assemble, rt check listing). RUNNER may hold a command to run them under:
+# Needs crates/assemble/out/assemble and crates/listing/out/listing (rt ci, or rt run there). RUNNER may hold a command to run them under:
 #     RUNNER='valgrind -q --error-exitcode=9' bash tests/text.sh
 set -u
 cd "$(dirname "$0")/.." || exit 2
 . tests/page/bytes.sh
 for program in assemble listing; do
-    [ -x "target/bin/$program" ] || { echo "target/bin/$program is missing: rt check $program" >&2; exit 1; }
+    [ -x "crates/$program/out/$program" ] || { echo "crates/$program/out/$program is missing: rt run in crates/$program" >&2; exit 1; }
 done
 scratch=$(mktemp -d)
 trap 'rm -rf "$scratch"' EXIT
@@ -25,7 +25,7 @@ hold() {
     "$to" "$3" > "$scratch/want"
     printf '%s' "${4:+$4$'\n'}" > "$scratch/error"
     cases=$((cases + 1))
-    if ! ${RUNNER:-} "target/bin/$1" < "$scratch/in" > "$scratch/got" 2> "$scratch/said"; then
+    if ! ${RUNNER:-} "crates/$1/out/$1" < "$scratch/in" > "$scratch/got" 2> "$scratch/said"; then
         echo "$1 ended with a failure: ${2:0:60}"
     elif ! cmp -s "$scratch/want" "$scratch/got" || ! cmp -s "$scratch/error" "$scratch/said"; then
         echo "$1 writes something else: ${2:0:60}"

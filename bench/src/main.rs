@@ -394,7 +394,7 @@ fn process_time(program: &str, input: &str) -> Option<f64> {
 fn print_startup() {
     const JOB: &str = "examples/berth-terminal.job";
     println!();
-    for program in ["true", "target/bin/page"] {
+    for program in ["true", "crates/page/out/page"] {
         let time = process_time(program, JOB).map_or("not built".into(), |time| format!("{time:.0} µs"));
         println!("start to end of `{program}` on {JOB}: {time}");
     }

@@ -9,25 +9,27 @@ cd "$(dirname "$0")/../.."
 seconds=${1:-60}
 target=${2:-page}
 [ -e "tests/fuzz/$target.c" ] || { echo "usage: bash tests/fuzz/run.sh [SECONDS [page|text]]" >&2; exit 2; }
-home=${RATTLE_HOME:-$(dirname "$(dirname "$(readlink -f "$(command -v rt)")")")}
-machine=on/$(uname -m)
+home=$(dirname "$(rt doc)")
 work=target/fuzz
 rm -rf "$work"
-mkdir -p "$work/kit/$machine/toolchain/bin" "$work/seeds" "$work/found"
+mkdir -p "$work/kit/bin" "$work/kit/toolchain/bin" "$work/seeds" "$work/found"
 
-# the kit, with a compiler that counts branches
-for part in "$home"/* "$home/$machine"/* "$home/$machine"/toolchain/bin/*; do
+# the kit, with a compiler that counts branches; rt takes the folder that its files lie in
+for part in "$home"/* "$home"/bin/* "$home"/toolchain/* "$home"/toolchain/bin/*; do
     [ -e "$work/kit/${part#"$home/"}" ] || ln -s "$part" "$work/kit/${part#"$home/"}"
 done
-ln -s "$home/$machine/toolchain/lib" "$work/kit/$machine/toolchain/lib"
-rm "$work/kit/$machine/toolchain/bin/clang"
-cat > "$work/kit/$machine/toolchain/bin/clang" <<END
+for part in bin/rt bin/rtlib.py toolchain/bin/clang; do
+    rm "$work/kit/$part"
+done
+cp "$home/bin/rt" "$home/bin/rtlib.py" "$work/kit/bin"
+cat > "$work/kit/toolchain/bin/clang" <<END
 #!/usr/bin/env bash
-exec "$home/$machine/toolchain/bin/clang" -fsanitize=fuzzer-no-link "\$@"
+exec "$home/toolchain/bin/clang" -fsanitize=fuzzer-no-link "\$@"
 END
-chmod +x "$work/kit/$machine/toolchain/bin/clang"
-RATTLE_HOME=$PWD/$work/kit rt staticlib exports
-mv target/staticlib/libexports.a "$work/libexports.a"
+chmod +x "$work/kit/toolchain/bin/clang"
+kit=$PWD/$work/kit
+(cd crates/exports && "$kit/bin/rt" lib)
+mv crates/exports/out/libexports.a "$work/libexports.a"
 
 case $target in
 page)
