@@ -1,7 +1,7 @@
 #!/usr/bin/env bash
 # Measures the engines against interpreters in Rust, and Lua 5.4 where it is installed, and prints the ratios; reading and listing
 # texts against Rust; and the start of the program `page` against `true`.
-# LUVRODAN_ARCHIVE may name the static library; otherwise the crate `exports` is built. With neither, only the Rust ones run.
+# LUVRODAN_ARCHIVE may name the static library; otherwise the crate `exports_c` is built. With neither, only the Rust ones run.
 set -eu
 cd "$(dirname "$0")/.."
 . wrapper/archive.sh

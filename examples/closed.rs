@@ -3,8 +3,8 @@
 //! computed from the line's draught: cleared for the terminal alone page 1 does not take it, and the run stops; cleared
 //! for both owners it does.
 //!
-//!     (cd crates/exports && rt lib)
-//!     LUVRODAN_ARCHIVE=crates/exports/out/libexports.a cargo run --offline --release -p luvrodan --example closed
+//!     . wrapper/archive.sh
+//!     cargo run --offline --release -p luvrodan --example closed
 
 use luvrodan::{assemble, Atom, Clearances, Machine, Refusal};
 

@@ -3,8 +3,8 @@
  * lines stand on page 0, and the last, `0 end 00000000`, says that nothing is missing. docs/MANUAL.md has the bytes of
  * jobs.
  *
- *     (cd crates/exports && rt lib)
- *     cc -I include examples/embed.c crates/exports/out/libexports.a -o embed
+ *     . wrapper/archive.sh
+ *     cc -I include examples/embed.c target/staticlib/libexports.a -o embed
  */
 #include <inttypes.h>
 #include <luvrodan.h>

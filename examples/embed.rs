@@ -2,8 +2,8 @@
 //! lines stand on page 0, and the last, `0 end 00000000`, says that nothing is missing. docs/MANUAL.md has the bytes of
 //! jobs.
 //!
-//!     (cd crates/exports && rt lib)
-//!     LUVRODAN_ARCHIVE=crates/exports/out/libexports.a cargo run --offline --release -p luvrodan --example embed
+//!     . wrapper/archive.sh
+//!     cargo run --offline --release -p luvrodan --example embed
 
 use luvrodan::{assemble, page, Atom, Machine, Refusal};
 use std::io::Write;

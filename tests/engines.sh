@@ -9,7 +9,7 @@ seed=${1:-1}
 count=${2:-200000}
 . wrapper/archive.sh
 if [ -z "$LUVRODAN_ARCHIVE" ]; then
-    echo "engines.sh: no archive: rt lib failed in crates/exports" >&2
+    echo "engines.sh: no archive: rt lib failed in crates/exports_c" >&2
     exit 1
 fi
 

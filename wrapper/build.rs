@@ -6,7 +6,7 @@ use std::path::PathBuf;
 fn main() {
     println!("cargo:rerun-if-env-changed=LUVRODAN_ARCHIVE");
     let Some(named) = env::var_os("LUVRODAN_ARCHIVE") else {
-        panic!("set LUVRODAN_ARCHIVE to the static library that `rt lib` wrote, crates/NAME/out/libNAME.a");
+        panic!("set LUVRODAN_ARCHIVE to the static library that `. wrapper/archive.sh` makes, target/staticlib/libNAME.a");
     };
     let wrapper = PathBuf::from(env::var_os("CARGO_MANIFEST_DIR").expect("cargo sets the crate's folder"));
     let archive = wrapper.join("..").join(named);

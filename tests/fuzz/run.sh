@@ -28,8 +28,8 @@ exec "$home/toolchain/bin/clang" -fsanitize=fuzzer-no-link "\$@"
 END
 chmod +x "$work/kit/toolchain/bin/clang"
 kit=$PWD/$work/kit
-(cd crates/exports && "$kit/bin/rt" lib)
-mv crates/exports/out/libexports.a "$work/libexports.a"
+(cd crates/exports_c && "$kit/bin/rt" lib)
+mv crates/exports_c/out/libexports_c.a "$work/libexports.a"
 
 case $target in
 page)

@@ -1,4 +1,5 @@
-// What C and Rust link: the functions of include/luvrodan.h over the proved engines. Read specs/Exported.antt first.
+// The functions of include/luvrodan.h over the proved engines, which `exports_c` hands to C and Rust under their names. Read specs/Exported.antt
+// first.
 #![tactic(auto)]
 
 mod clearance;
@@ -15,11 +16,10 @@ ghost use Rattle.engine.specs.Memory.{output, memory};
 ghost use Rattle.exports.specs.Exported.{plain_left, exported_plain, tagged_left, exported_tagged, page_left, exported_page};
 ghost use Rattle.exports.specs.Exported.{ExportedPromises, written_left, exported_written};
 
-use result::{LuvrodanPageResult, LuvrodanResult, LuvrodanWritten};
+pub use result::{LuvrodanPageResult, LuvrodanResult, LuvrodanWritten};
 
 // A run under the standard rules.
-#[unsafe(no_mangle)]
-pub extern "C" fn luvrodan_plain(
+pub fn luvrodan_plain(
     sheet: &[u8],
     values: &mut [i64],
     labels: &mut [i64],
@@ -57,8 +57,7 @@ pub extern "C" fn luvrodan_plain(
 }
 
 // A run on the tag engine, under the rules of a table.
-#[unsafe(no_mangle)]
-pub extern "C" fn luvrodan_tagged(
+pub fn luvrodan_tagged(
     sheet: &[u8],
     values: &mut [i64],
     labels: &mut [i64],
@@ -114,8 +113,7 @@ pub extern "C" fn luvrodan_tagged(
 }
 
 // How many kernel commands the handler of a table has; 0 where the bytes are no table.
-#[unsafe(no_mangle)]
-pub extern "C" fn luvrodan_handler_count(table: &[u8]) -> u64
+pub fn luvrodan_handler_count(table: &[u8]) -> u64
     ensures count { result ≡ length (handler_of (read_table table.now)) }
     ensures handler { Handles (read_table table.now) (λ t code. result ≡ length code) }
 {
@@ -123,8 +121,7 @@ pub extern "C" fn luvrodan_handler_count(table: &[u8]) -> u64
 }
 
 // The page of a job: what the program `page` prints for these bytes.
-#[unsafe(no_mangle)]
-pub extern "C" fn luvrodan_page(job: &[u8], page: &mut [u8]) -> LuvrodanPageResult
+pub fn luvrodan_page(job: &[u8], page: &mut [u8]) -> LuvrodanPageResult
     ensures { page_left result page.new ≡ exported_page job.now page.old }
 {
     let made = report::page(job, page);
@@ -132,8 +129,7 @@ pub extern "C" fn luvrodan_page(job: &[u8], page: &mut [u8]) -> LuvrodanPageResu
 }
 
 // Reads a text into a sheet.
-#[unsafe(no_mangle)]
-pub extern "C" fn luvrodan_assemble(text: &[u8], sheet: &mut [u8]) -> LuvrodanWritten
+pub fn luvrodan_assemble(text: &[u8], sheet: &mut [u8]) -> LuvrodanWritten
     ensures { written_left result sheet.new ≡ exported_written (assembled text.now) sheet.old }
 {
     let written = assembly::assemble(text, sheet);
@@ -141,8 +137,7 @@ pub extern "C" fn luvrodan_assemble(text: &[u8], sheet: &mut [u8]) -> LuvrodanWr
 }
 
 // Lists a sheet as a text.
-#[unsafe(no_mangle)]
-pub extern "C" fn luvrodan_list(sheet: &[u8], text: &mut [u8]) -> LuvrodanWritten
+pub fn luvrodan_list(sheet: &[u8], text: &mut [u8]) -> LuvrodanWritten
     ensures { written_left result text.new ≡ exported_written (listed sheet.now) text.old }
 {
     let written = assembly::list(sheet, text);
