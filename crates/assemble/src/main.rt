@@ -2,7 +2,6 @@
 // number and the line to standard error.
 #![tactic(auto)]
 
-use assembly::Written;
 use std::io;
 
 fn main(rt: HostRuntime) -> io::Result<()> {
@@ -13,9 +12,8 @@ fn main(rt: HostRuntime) -> io::Result<()> {
         return rt.eprintln("the text is longer than 131072 bytes");
     }
     let mut sheet = [0u8; 36864];
-    let written = assembly::assemble(&text[..count], &mut sheet);
-    match written {
-        Written::Length(n) => rt.write_all(word::part::first(&sheet, n)),
-        Written::Refused(r) => eprintln!(rt; "refused {} {}", r.code, r.position),
+    match assembly::assemble(&text[..count], &mut sheet) {
+        Ok(n) => rt.write_all(word::part::first(&sheet, n)),
+        Err(r) => eprintln!(rt; "{r}"),
     }
 }

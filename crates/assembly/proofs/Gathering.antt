@@ -1,5 +1,6 @@
 -- Reading a text line by line into a space: what is read, before what is still to be read, gives the whole text's commands.
 -- Assumes nothing.
+use Rattle.std.proofs.Common.{Err}
 use mathlib.Core.Path.{◌≡◌, refl, sym, ap, ◌∙◌}
 use mathlib.Core.List.{List, [], ◌∷◌, ◌++◌, append-nil}
 use Prim.Native.Nat.{ℕ, zero, suc, ◌+◌, ◌-◌, ◌*◌, ◌<◌, ◌≤◌}
@@ -17,10 +18,11 @@ use Rattle.program.specs.Decode.{Decoded, refused, accepted, refusal, command_li
 use Rattle.program.specs.Encode.{encode_command, encode_code, encode}
 use Rattle.program.proofs.Codes.{opcode_of-code_of}
 use Rattle.program.proofs.Encoding.{operand-length}
-use Rattle.assembly.specs.declared.line.Line.TheVariants.{Is, Malformed, Outside}
+use Rattle.assembly.specs.declared.line.Line.{Line}
+use Rattle.assembly.specs.declared.line.Fault.TheVariants.{Malformed, Outside}
 use Rattle.assembly.specs.Assembly as Text
 use Rattle.assembly.specs.Assembly.{lines_of, read_line, read_first, read_from, read_text, denied, given, result_of, assembled}
-use Rattle.assembly.specs.Scan.{first_line, line_to, line_of}
+use Rattle.assembly.specs.Scan.{reads, first_line, line_to, line_of}
 use Rattle.assembly.specs.Space.{Roomy}
 use Rattle.assembly.proofs.Bounds.{encode-length}
 use Rattle.assembly.proofs.Lines.{lines_next, line-within, lines_end}
@@ -31,12 +33,12 @@ use Rattle.assembly.proofs.Progress.{after, after-snoc, after-refused, after-acc
 -- What the code's line says of the line
 -- ════════════════════════════════════════════════════════════════════════════════════════════
 
-line-malformed : (next : ℕ) (x : Text.Line) → line_to next x ≡ Malformed → x ≡ Text.malformed
+line-malformed : (next : ℕ) (x : Text.Line) → line_to next x ≡ Err Malformed → x ≡ Text.malformed
 line-malformed next Text.malformed e = refl
 line-malformed next Text.outside e = never (cc)
 line-malformed next (Text.says c) e = never (cc)
 
-line-outside : (next : ℕ) (x : Text.Line) → line_to next x ≡ Outside → x ≡ Text.outside
+line-outside : (next : ℕ) (x : Text.Line) → line_to next x ≡ Err Outside → x ≡ Text.outside
 line-outside next Text.malformed e = never (cc)
 line-outside next Text.outside e = refl
 line-outside next (Text.says c) e = never (cc)
@@ -50,11 +52,22 @@ record Said (x : Text.Line) (to : ℕ) (code : ℕ) (z : ℤ) (bytes next : ℕ)
   bytes-are : bytes ≡ operand_width (opcode command) + 1
   next-is : next ≡ to
 
-line-said : (to : ℕ) (x : Text.Line) (code : ℕ) (z : ℤ) (bytes next : ℕ) → line_to to x ≡ Is code z bytes next → Said x to code z bytes next
+abbrev the_line : ℕ → ℤ → ℕ → ℕ → Line
+the_line code z bytes next = record { code = code; operand = z; bytes = bytes; next = next }
+
+line-said : (to : ℕ) (x : Text.Line) (code : ℕ) (z : ℤ) (bytes next : ℕ) → line_to to x ≡ reads code z bytes next → Said x to code z bytes next
 line-said to Text.malformed code z bytes next e = never (cc)
 line-said to Text.outside code z bytes next e = never (cc)
 line-said to (Text.says c) code z bytes next e =
-    record { command = c; said = refl; code_is = cc; operand-is = cc; bytes-are = cc; next-is = cc }
+    let same : the_line (code_of (opcode c)) (operand c) (operand_width (opcode c) + 1) to ≡ the_line code z bytes next = cc in
+    record {
+      command = c;
+      said = refl;
+      code_is = ap (λ (l : Line). l.code) (sym same);
+      operand-is = ap (λ (l : Line). l.operand) (sym same);
+      bytes-are = ap (λ (l : Line). l.bytes) (sym same);
+      next-is = ap (λ (l : Line). l.next) (sym same);
+    }
 
 code-encoded : (code : ℕ) (z : ℤ) (c : Command) → code ≡ code_of (opcode c) → z ≡ operand c → encode_code (opcode_of code) z ≡ encode_command c
 code-encoded code z c e f = rw (e, f, opcode_of-code_of (opcode c))
@@ -96,8 +109,8 @@ unfolding read_from
 read-end zero number = refl
 read-end (suc left) number = refl
 
-module _ (s : List ℕ) (at count size : ℕ) (old new : List ℕ) (g : Gathered s at count size old new) where
-  pub gathered-length : length new ≡ length old
+module _ {s : List ℕ} {at count size : ℕ} {old new : List ℕ} (g : Gathered s at count size old new) where
+  gathered-length : length new ≡ length old
   gathered-length = ap length g.held ∙ length-laid (encode g.done) old (omega (arith, g.sized, g.roomy))
 
   -- all is read
@@ -140,17 +153,17 @@ module _ (s : List ℕ) (at count size : ℕ) (old new : List ℕ) (g : Gathered
       number : suc count ≡ count + 1
       number = omega arith
 
-      pub gathered-malformed : line_of s at ≡ Malformed → assembled s ≡ denied (refusal 10 (count + 1))
+      pub gathered-malformed : line_of s at ≡ Err Malformed → assembled s ≡ denied (refusal 10 (count + 1))
       unfolding line_of line
       gathered-malformed e =
           refused-by 10 (count + 1) (first ∙ rw (line-malformed _ (read_line (first_line (drop at s))) e, number))
 
-      pub gathered-outside : line_of s at ≡ Outside → assembled s ≡ denied (refusal 11 (count + 1))
+      pub gathered-outside : line_of s at ≡ Err Outside → assembled s ≡ denied (refusal 11 (count + 1))
       unfolding line_of line
       gathered-outside e =
           refused-by 11 (count + 1) (first ∙ rw (line-outside _ (read_line (first_line (drop at s))) e, number))
 
-      module _ (code : ℕ) (z : ℤ) (bytes next : ℕ) (e : line_of s at ≡ Is code z bytes next) where
+      module _ {code : ℕ} {z : ℤ} {bytes next : ℕ} (e : line_of s at ≡ reads code z bytes next) where
         said : Said (read_line line) end code z bytes next
         unfolding line_of line end
         said = line-said _ (read_line (first_line (drop at s))) code z bytes next e
@@ -185,7 +198,7 @@ module _ (s : List ℕ) (at count size : ℕ) (old new : List ℕ) (g : Gathered
         pub gathered-forward : at < next
         gathered-forward = omega (arith, line-ahead)
 
-        pub gathered-room : Roomy s old → size + bytes ≤ length old
+        pub gathered-room : Roomy s (length old) → size + bytes ≤ length old
         gathered-room r =
             omega (
               arith,
@@ -207,7 +220,7 @@ module _ (s : List ℕ) (at count size : ℕ) (old new : List ℕ) (g : Gathered
             ∙ ap (λ (k : ℕ). after ds (read_from left (suc k) (lines_of (drop end s)))) number
             ∙ ap (λ (p : ℕ). after ds (read_from left (suc (count + 1)) (lines_of (drop p s)))) (sym said.next-is)
 
-        pub gathered_next : Roomy s old
+        pub gathered_next : Roomy s (length old)
             → Gathered s next (count + 1) (size + bytes) old (put_out size (encode_code (opcode_of code) z) new)
         gathered_next r =
             let room = gathered-room r in

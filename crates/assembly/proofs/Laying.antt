@@ -1,33 +1,28 @@
 -- The line of a command in lent memory: its name, its operand's numbers, each after one space, its newline.
 -- Assumes nothing.
+use Rattle.std.proofs.Common.{None, Option, Some}
 use mathlib.Core.Path.{◌≡◌, refl, sym, ap, ◌∙◌}
 use mathlib.Core.List.{List, [], ◌∷◌, ◌++◌, reverse, append-nil}
-use mathlib.Core.Option.{Option, none, some}
-use Prim.Native.Nat.{ℕ, zero, suc, ◌+◌, ◌*◌, ◌≤◌}
+use Prim.Native.Nat.{ℕ, zero, suc, ◌+◌, ◌≤◌}
 use native.Mathlib.Omega.{arith}
 use lib.IntN.{ℤ, pos, negsuc}
-use lib.Dec.{leb, leb→le}
 use lib.ListN.{length, set, length-append}
 use Rattle.word.specs.Digits.{digits_of}
 use Rattle.word.specs.Lay.{laid_at}
 use Rattle.word.specs.Text.{decimal, put_answer, put_out}
 use Rattle.word.specs.Wrap as Word
-use Rattle.word.specs.declared.text.Put.{Put}
-use Rattle.word.specs.declared.text.Put.TheVariants.{Next, NoRoom}
-use Rattle.word.proofs.Bool.{never}
 use Rattle.word.proofs.Lay.{laid_at-nil, laid_at-cons, laid_at-append, length-laid_at}
 use Rattle.word.proofs.Laws.Text.{put-room, put-cons}
 use Rattle.word.proofs.Laws.Decimal.{decimal-length}
 use Rattle.program.specs.declared.Operand.{Operand}
 use Rattle.program.specs.declared.Operand.TheVariants.{Signed, Page, Counts}
-use Rattle.program.specs.Command.{Opcode, opcode_of, operand_of, width, operand_width, arguments_of, results_of}
+use Rattle.program.specs.Command.{Opcode, operand_of, width, arguments_of, results_of}
 use Rattle.program.specs.Name.{letters, name_of}
-use Rattle.program.proofs.Codes.{opcode-all}
-use Rattle.program.proofs.Fetching.{Shaped}
+use Rattle.program.specs.declared.Name.{Name}
 use Rattle.program.proofs.Naming.{packed-letters}
 use Rattle.program.proofs.Naming as Naming
 use Rattle.assembly.specs.Assembly.{newline, space, operand_text}
-use Rattle.assembly.specs.declared.listing.Numbers.TheVariants.{None, One}
+use Rattle.assembly.specs.declared.listing.Numbers.{Numbers}
 use Rattle.assembly.specs.Space.{numbers_by, numbers_in, number_text, numbers_text, letters_in, operand_in, Bare, code_text}
 
 -- ════════════════════════════════════════════════════════════════════════════════════════════
@@ -35,9 +30,9 @@ use Rattle.assembly.specs.Space.{numbers_by, numbers_in, number_text, numbers_te
 -- ════════════════════════════════════════════════════════════════════════════════════════════
 
 -- its numbers
-pub numbers-text : (x : Option Opcode) (z : ℤ) → numbers_text (numbers_in x z) ≡ operand_in x z
-numbers-text none z = refl
-numbers-text (some o) z = by (operand_of o)
+numbers-text : (x : Option Opcode) (z : ℤ) → numbers_text (numbers_in x z) ≡ operand_in x z
+numbers-text None z = refl
+numbers-text (Some o) z = by (operand_of o)
   where
     by : (x : Operand) → numbers_text (numbers_by x z) ≡ operand_text x z
     by (Signed zero) = refl
@@ -45,28 +40,23 @@ numbers-text (some o) z = by (operand_of o)
     by Page = refl
     by Counts = refl
 
--- by the kind of the operand of a code
-pub numbers-shaped : (code : ℕ) (x : Operand) (z : ℤ) → Shaped code x → numbers_in (opcode_of code) z ≡ numbers_by x z
-numbers-shaped code x z s = rw (s.1, s.2)
+pub operand-none : (x : Option Opcode) (z : ℤ) → numbers_in x z ≡ Numbers.None → operand_in x z ≡ []
+operand-none x z e = sym (numbers-text x z) ∙ ap numbers_text e
 
-pub numbers-none : (k : ℕ) (z : ℤ) → k ≡ 0 → numbers_by (Signed k) z ≡ None
-numbers-none k z e = rw e
-
-pub numbers-one : (k : ℕ) (z : ℤ) → (k ≡ 0 → ⊥) → numbers_by (Signed k) z ≡ One z
-numbers-one zero z h = absurd (h refl)
-numbers-one (suc k) z h = refl
+pub operand-two : (x : Option Opcode) (z a d : ℤ) → numbers_in x z ≡ Numbers.Two a d → operand_in x z ≡ number_text a ++ number_text d
+operand-two x z a d e = sym (numbers-text x z) ∙ ap numbers_text e
 
 pub number-few : (z : ℤ) → Word.Signed 64 z → length (number_text z) ≤ 21
 number-few z h = omega (arith, decimal-length z h)
 
 -- two counts of a word are words
-pub counts-words : (z : ℤ) → Word.Signed 64 z → Word.Signed 64 (pos (arguments_of z)) × Word.Signed 64 (pos (results_of z))
+counts-words : (z : ℤ) → Word.Signed 64 z → Word.Signed 64 (pos (arguments_of z)) × Word.Signed 64 (pos (results_of z))
 counts-words (pos n) h = (omega arith, omega arith)
 counts-words (negsuc n) h = (omega arith, omega arith)
 
 pub operand-few : (x : Option Opcode) (z : ℤ) → Word.Signed 64 z → length (operand_in x z) ≤ 42
-operand-few none z h = omega arith
-operand-few (some o) z h = by (operand_of o)
+operand-few None z h = omega arith
+operand-few (Some o) z h = by (operand_of o)
   where
     by : (x : Operand) → length (operand_text x z) ≤ 42
     by (Signed zero) = omega arith
@@ -82,30 +72,14 @@ operand-few (some o) z h = by (operand_of o)
         )
 
 -- a number written where there is room
-module _ (z : ℤ) (at : ℕ) (old : List ℕ) (h : at + length (number_text z) ≤ length old) where
-  number-all : (put_answer (at + 1) (decimal z) (set old at space) ≡ Next (at + length (number_text z)))
-      × (put_out (at + 1) (decimal z) (set old at space) ≡ laid_at at (number_text z) old)
-  number-all =
-      let k = length (decimal z) in
-      let part = put-cons at k space (decimal z) old refl (omega arith) in
-      let all = put-room at (length (number_text z)) (number_text z) old refl h in
-      (part.0 ∙ all.0, part.1 ∙ all.1)
-
-  module _ (r : Put) (d : r ≡ put_answer (at + 1) (decimal z) (set old at space)) where
-    pub number-next : (n : ℕ) → r ≡ Next n → n ≡ at + length (number_text z)
-    number-next n k = next (sym k ∙ d ∙ number-all.0)
-      where
-        next : {m n : ℕ} → Next n ≡ Next m → n ≡ m
-        next e = cc
-
-    pub number-room : {A : Type 0} → r ≡ NoRoom → A
-    number-room k = none (sym k ∙ d ∙ number-all.0)
-      where
-        none : {A : Type 0} {m : ℕ} → NoRoom ≡ Next m → A
-        none e = never (cc)
-
-  pub number-laid : (new : List ℕ) → new ≡ put_out (at + 1) (decimal z) (set old at space) → new ≡ laid_at at (number_text z) old
-  number-laid new d = d ∙ number-all.1
+pub number-written : (z : ℤ) (at : ℕ) (old : List ℕ) → at + length (number_text z) ≤ length old
+    → (put_answer (at + 1) (decimal z) (set old at space) ≡ Some (at + length (number_text z)))
+    × (put_out (at + 1) (decimal z) (set old at space) ≡ laid_at at (number_text z) old)
+number-written z at old h =
+    let k = length (decimal z) in
+    let part = put-cons at k space (decimal z) old refl (omega arith) in
+    let all = put-room at (length (number_text z)) (number_text z) old refl h in
+    (part.0 ∙ all.0, part.1 ∙ all.1)
 
 -- two numbers, one after the other
 pub numbers-laid : (a d : ℤ) (at end : ℕ) (old mid new : List ℕ) → at + length (number_text a ++ number_text d) ≤ length old
@@ -121,31 +95,23 @@ numbers-laid a d at end old mid new h e f g =
 -- ════════════════════════════════════════════════════════════════════════════════════════════
 
 pub name-length : (x : Option Opcode) → (name_of x).length ≡ length (letters_in x)
-name-length none = refl
-name-length (some o) = refl
+name-length None = refl
+name-length (Some o) = refl
 
 pub name-few : (x : Option Opcode) → length (letters_in x) ≤ 8
-name-few none = omega arith
-name-few (some o) = Naming.name-short o
+name-few None = omega arith
+name-few (Some o) = Naming.name-short o
 
-pub name-letters : (x : Option Opcode) → reverse (digits_of 256 (name_of x).length (name_of x).word) ≡ letters_in x
+name-letters : (x : Option Opcode) → reverse (digits_of 256 (name_of x).length (name_of x).word) ≡ letters_in x
 unfolding digits_of
-name-letters none = refl
-name-letters (some o) = packed-letters (letters o) (Naming.name-letters o)
+name-letters None = refl
+name-letters (Some o) = packed-letters (letters o) (Naming.name-letters o)
 
-pub line-size : (x : Option Opcode) (z : ℤ) → length (code_text x z) ≡ length (letters_in x) + length (operand_in x z) + 1
+line-size : (x : Option Opcode) (z : ℤ) → length (code_text x z) ≡ length (letters_in x) + length (operand_in x z) + 1
 line-size x z = simp length-append
 
--- the name and the operand, as they were written
-pub line-parts : (x : Option Opcode) (z : ℤ) (at n : ℕ) (name old mid new : List ℕ)
-    → n ≡ length (letters_in x) → name ≡ letters_in x → mid ≡ laid_at at name old → new ≡ laid_at (at + n) (operand_in x z) mid
-    → new ≡ laid_at (at + length (letters_in x)) (operand_in x z) (laid_at at (letters_in x) old)
-line-parts x z at n name old mid new e f g h =
-    h ∙ ap (λ (k : ℕ). laid_at (at + k) (operand_in x z) mid) e
-    ∙ ap (laid_at (at + length (letters_in x)) (operand_in x z)) (g ∙ ap (λ (t : List ℕ). laid_at at t old) f)
-
 -- the three parts, one after the other
-pub line-laid : (x : Option Opcode) (z : ℤ) (at : ℕ) (old : List ℕ) → at + length (code_text x z) ≤ length old
+line-laid : (x : Option Opcode) (z : ℤ) (at : ℕ) (old : List ℕ) → at + length (code_text x z) ≤ length old
     → (let mid = at + length (letters_in x) in
     let end = mid + length (operand_in x z) in
     set (laid_at mid (operand_in x z) (laid_at at (letters_in x) old)) end newline ≡ laid_at at (code_text x z) old)
@@ -165,19 +131,18 @@ line-laid x z at old h =
     ∙ laid_at-cons (mid + length b) newline [] second (omega arith)
     ∙ laid_at-nil (suc (mid + length b)) (set second (mid + length b) newline))
 
+-- and so they are written
+pub line-written : (x : Option Opcode) (z : ℤ) (at end : ℕ) (name : Name) (old mid new : List ℕ) → name ≡ name_of x
+    → mid ≡ laid_at at (reverse (digits_of 256 name.length name.word)) old → end ≡ at + name.length + length (operand_in x z)
+    → new ≡ laid_at (at + name.length) (operand_in x z) mid → at + length (code_text x z) ≤ length old
+    → set new end newline ≡ laid_at at (code_text x z) old
+line-written x z at end name old mid new e f g h r = rw (h, g, f, e, name-letters x, name-length x) (line-laid x z at old r)
+
 -- ════════════════════════════════════════════════════════════════════════════════════════════
 -- The line of a command that has no operand: its name and its newline
 -- ════════════════════════════════════════════════════════════════════════════════════════════
 
--- with an operand a name has at most two letters more for each of its bytes
-name-width : (o : Opcode) → length (letters o) ≤ 6 + 2 * operand_width o
-name-width o =
-    leb→le (length (letters o)) (6 + 2 * operand_width o) (opcode-all (λ o. leb (length (letters o)) (6 + 2 * operand_width o)) tt o)
-
 module _ (x : Option Opcode) (b : Bare x) where
-  pub bare-name : (3 ≤ length (letters_in x)) × (length (letters_in x) ≤ 6)
-  bare-name = rw b.1 (Naming.name-long b.0, omega (arith, name-width b.0, b.2))
-
   bare-operand : (z : ℤ) → operand_in x z ≡ []
   bare-operand z = rw b.1 (by (operand_of b.0) b.2)
     where
@@ -195,10 +160,10 @@ module _ (x : Option Opcode) (b : Bare x) where
   pub bare-line : (z : ℤ) → code_text x (pos 0) ≡ code_text x z
   bare-line z = bare-text (pos 0) ∙ sym (bare-text z)
 
-  pub bare-size : length (code_text x (pos 0)) ≡ length (letters_in x) + 1
+  bare-size : length (code_text x (pos 0)) ≡ length (letters_in x) + 1
   bare-size = ap length (bare-text (pos 0)) ∙ length-append (letters_in x) (newline ∷ [])
 
-  pub bare-laid : (at : ℕ) (old : List ℕ) → at + length (code_text x (pos 0)) ≤ length old
+  bare-laid : (at : ℕ) (old : List ℕ) → at + length (code_text x (pos 0)) ≤ length old
       → set (laid_at at (letters_in x) old) (at + length (letters_in x)) newline ≡ laid_at at (code_text x (pos 0)) old
   bare-laid at old h =
       let a = letters_in x in
@@ -208,3 +173,8 @@ module _ (x : Option Opcode) (b : Bare x) where
       ∙ laid_at-append at a (newline ∷ []) old (omega (arith, bare-size))
       ∙ laid_at-cons (at + length a) newline [] first (omega (arith, bare-size))
       ∙ laid_at-nil (suc (at + length a)) (set first (at + length a) newline))
+
+  pub bare-written : (at : ℕ) (name : Name) (old mid : List ℕ) → name ≡ name_of x
+      → mid ≡ laid_at at (reverse (digits_of 256 name.length name.word)) old → at + length (code_text x (pos 0)) ≤ length old
+      → set mid (at + name.length) newline ≡ laid_at at (code_text x (pos 0)) old
+  bare-written at name old mid e f r = rw (f, e, name-letters x, name-length x) (bare-laid at old r)

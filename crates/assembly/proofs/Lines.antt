@@ -1,5 +1,6 @@
 -- The lines of a text: the first one and those after it; and reading a name or a number stays within the text.
 -- Assumes nothing.
+use Rattle.std.proofs.Common.{None, Option, Some}
 use mathlib.Core.Path.{◌≡◌, refl, sym, ap, ◌∙◌}
 use mathlib.Core.Bool.{Bool, true, false}
 use mathlib.Core.List.{List, [], ◌∷◌}
@@ -14,7 +15,6 @@ use Rattle.word.specs.Choose.{choose}
 use Rattle.word.specs.Exact.{exactly}
 use Rattle.word.specs.Text.{numeral_value}
 use Rattle.word.specs.Numeral.{is_digit, signed_by, leading_digits, decimal_to, decimal_from, decimal_at}
-use Rattle.word.specs.declared.exact.Exact.{Exact}
 use Rattle.word.specs.declared.numeral.Decimal.{Decimal}
 use Rattle.word.specs.declared.numeral.Decimal.TheVariants.{Is, Beyond, Missing}
 use Rattle.program.specs.declared.Operand.{Operand}
@@ -107,9 +107,9 @@ leading_length (c ∷ t) = by (is_digit c) (leading_length t)
     by true h = omega arith
     by false h = omega arith
 
-decimal-to : (n next : ℕ) (x : Exact) → next ≤ n → NextWithin n (decimal_to next x)
-decimal-to n next (Exact.Number z) h = h
-decimal-to n next Exact.Outside h = h
+decimal-to : (n next : ℕ) (x : Option ℤ) → next ≤ n → NextWithin n (decimal_to next x)
+decimal-to n next (Some z) h = h
+decimal-to n next None h = h
 
 decimal-from : (n : ℕ) (minus : Bool) (at : ℕ) (ds : List ℕ) → at + length ds ≤ n → NextWithin n (decimal_from minus at ds)
 decimal-from n minus at [] h = tt

@@ -1,9 +1,9 @@
 -- What is read of a text are commands that can be written; and a normal text that is read is what is listed of its commands.
 -- Assumes nothing.
+use Rattle.std.proofs.Common.{None, Option, Some}
 use mathlib.Core.Path.{◌≡◌, refl, ap, ◌∙◌}
 use mathlib.Core.Bool.{Bool, true, false, ◌&&◌}
 use mathlib.Core.List.{List, [], ◌∷◌, ◌++◌, map, append-nil}
-use mathlib.Core.Option.{Option, none, some}
 use Prim.Native.Nat.{ℕ, zero, suc, ◌≤◌}
 use native.Mathlib.Omega.{arith}
 use lib.IntN.{ℤ, pos}
@@ -51,25 +51,25 @@ said-parts o z ws c e w t =
     rw (e, p, q) (w, t)
 
 number-said : (o : Opcode) (x : Option ℤ) (c : Command) → read_number o x ≡ says c
-    → (z : ℤ) × (x ≡ some z) × (in_range o z ≡ true) × (c ≡ command o z)
-number-said o none c e = never (cc)
-number-said o (some z) c e = by (in_range o z) refl e
+    → (z : ℤ) × (x ≡ Some z) × (in_range o z ≡ true) × (c ≡ command o z)
+number-said o None c e = never (cc)
+number-said o (Some z) c e = by (in_range o z) refl e
   where
     by : (t : Bool) → in_range o z ≡ t → choose t (says (command o z)) outside ≡ says c
-        → (y : ℤ) × (some z ≡ some y) × (in_range o y ≡ true) × (c ≡ command o y)
+        → (y : ℤ) × (Some z ≡ Some y) × (in_range o y ≡ true) × (c ≡ command o y)
     by true f e = (z, refl, f, cc)
     by false f e = never (cc)
 
 -- two numbers that are read are the two counts of a word in range
 counts-said : (o : Opcode) (x y : Option ℤ) (c : Command) → operand_of o ≡ Counts → read_counts o x y ≡ says c
-    → (z : ℤ) × (x ≡ some (pos (arguments_of z))) × (y ≡ some (pos (results_of z))) × (in_range o z ≡ true) × (c ≡ command o z)
-counts-said o none y c k e = never (cc)
-counts-said o (some a) none c k e = never (cc)
-counts-said o (some a) (some d) c k e =
-    let (z, n, i, m) = number-said o (some (counts a d)) c e in
+    → (z : ℤ) × (x ≡ Some (pos (arguments_of z))) × (y ≡ Some (pos (results_of z))) × (in_range o z ≡ true) × (c ≡ command o z)
+counts-said o None y c k e = never (cc)
+counts-said o (Some a) None c k e = never (cc)
+counts-said o (Some a) (Some d) c k e =
+    let (z, n, i, m) = number-said o (Some (counts a d)) c e in
     let l : counts a d ≡ z = cc in
     let (p, q) = counts-both a d (ap is_counts l ∙ rw k at i) in
-    (z, ap some (p ∙ ap (λ w. pos (arguments_of w)) l), ap some (q ∙ ap (λ w. pos (results_of w)) l), i, m)
+    (z, ap Some (p ∙ ap (λ w. pos (arguments_of w)) l), ap Some (q ∙ ap (λ w. pos (results_of w)) l), i, m)
 
 module _ (o : Opcode) (name : List ℕ) (c : Command) (f : letters o ≡ name) where
   -- one number
@@ -110,8 +110,8 @@ module _ (o : Opcode) (name : List ℕ) (c : Command) (f : letters o ≡ name) w
 
 named-said : (x : Option Opcode) (name : List ℕ) (ws : List (List ℕ)) (c : Command) → opcode_named name ≡ x → read_named x ws ≡ says c
     → Said (name ∷ ws) c
-named-said none name ws c e r = never (cc)
-named-said (some o) name ws c e r = operands-said o name c (letters-named name o e) (operand_of o) ws refl r
+named-said None name ws c e r = never (cc)
+named-said (Some o) name ws c e r = operands-said o name c (letters-named name o e) (operand_of o) ws refl r
 
 words-said : (ws : List (List ℕ)) (c : Command) → read_words ws ≡ says c → Said ws c
 words-said [] c r = never (cc)
@@ -120,8 +120,8 @@ words-said (name ∷ ws) c r = named-said (opcode_named name) name ws c refl r
 -- a line that says a command has the name's letters
 named-long : (x : Option Opcode) (name : List ℕ) (ws : List (List ℕ)) (c : Command) → opcode_named name ≡ x → read_named x ws ≡ says c
     → 3 ≤ length name
-named-long none name ws c e r = never (cc)
-named-long (some o) name ws c e r = rw (← letters-named name o e) (name-long o)
+named-long None name ws c e r = never (cc)
+named-long (Some o) name ws c e r = rw (← letters-named name o e) (name-long o)
 
 words_long : (ws : List (List ℕ)) (c : Command) → read_words ws ≡ says c → 3 ≤ length (spaced space ws)
 words_long [] c r = never (cc)

@@ -1,9 +1,9 @@
 -- The number at a position of a text, and the words of the line that begins there.
 -- Assumes nothing.
+use Rattle.std.proofs.Common.{Option, None, Some}
 use mathlib.Core.Path.{◌≡◌, refl, sym, ap, ◌∙◌}
 use mathlib.Core.Bool.{Bool, true, false, ◌&&◌}
 use mathlib.Core.List.{List, [], ◌∷◌, ◌++◌, append-nil, append_assoc}
-use mathlib.Core.Option.{none, some}
 use Prim.Native.Nat.{ℕ, ◌+◌}
 use native.Mathlib.Omega.{arith}
 use lib.IntN.{ℤ}
@@ -14,7 +14,6 @@ use Rattle.word.specs.Choose.{choose}
 use Rattle.word.specs.Exact.{exactly}
 use Rattle.word.specs.Text.{numeral_value}
 use Rattle.word.specs.Numeral.{is_digit, all_digits, signed_by, digits_number, number_of, leading_digits, decimal_to, decimal_from, decimal_at}
-use Rattle.word.specs.declared.exact.Exact.{Exact}
 use Rattle.word.specs.declared.numeral.Decimal.TheVariants.{Missing}
 use Rattle.word.proofs.Laws.Reading.{leading-digits}
 use Rattle.program.proofs.Naming.{all_letters, letters-append}
@@ -52,7 +51,7 @@ digits-not (d ∷ ds) c w e = by (is_digit d) (digits-not ds c w e)
     by false h = refl
 
 -- they are no number before anything else
-number-not : (minus : Bool) (ds : List ℕ) (c : ℕ) (w : List ℕ) → is_digit c ≡ false → digits_number minus (ds ++ c ∷ w) ≡ none
+number-not : (minus : Bool) (ds : List ℕ) (c : ℕ) (w : List ℕ) → is_digit c ≡ false → digits_number minus (ds ++ c ∷ w) ≡ None
 number-not minus [] c w e = rw e
 number-not minus (d ∷ ds) c w e = rw (digits-not (d ∷ ds) c w e)
 
@@ -63,14 +62,14 @@ number-not minus (d ∷ ds) c w e = rw (digits-not (d ∷ ds) c w e)
 -- b is what stands from the position p on: what is read there, and which words the line has
 pub data Spells (s : List ℕ) (p : ℕ) (b : List ℕ) : Type 0 where
   -- no number: none is read, or more than a number; and the first word is none
-  missing : decimal_at s p ≡ Missing → (w : List ℕ) (ws : List (List ℕ)) → words_of (first_line b) ≡ w ∷ ws → number_of w ≡ none → Spells s p b
-  stuck : (next : ℕ) (x : Exact) → decimal_at s p ≡ decimal_to next x → (get_or s next 10 ≡ 10 → ⊥) → (get_or s next 10 ≡ 32 → ⊥)
-      → (w : List ℕ) (ws : List (List ℕ)) → words_of (first_line b) ≡ w ∷ ws → number_of w ≡ none → Spells s p b
+  missing : decimal_at s p ≡ Missing → (w : List ℕ) (ws : List (List ℕ)) → words_of (first_line b) ≡ w ∷ ws → number_of w ≡ None → Spells s p b
+  stuck : (next : ℕ) (x : Option ℤ) → decimal_at s p ≡ decimal_to next x → (get_or s next 10 ≡ 10 → ⊥) → (get_or s next 10 ≡ 32 → ⊥)
+      → (w : List ℕ) (ws : List (List ℕ)) → words_of (first_line b) ≡ w ∷ ws → number_of w ≡ None → Spells s p b
   -- a number that ends the line, or one that a space follows
   last : (z : ℤ) (next : ℕ) → decimal_at s p ≡ decimal_to next (exactly z) → get_or s next 10 ≡ 10 → (w : List ℕ)
-      → words_of (first_line b) ≡ w ∷ [] → number_of w ≡ some z → p + length (first_line b) ≡ next → Spells s p b
+      → words_of (first_line b) ≡ w ∷ [] → number_of w ≡ Some z → p + length (first_line b) ≡ next → Spells s p b
   more : (z : ℤ) (next : ℕ) → decimal_at s p ≡ decimal_to next (exactly z) → (rest : List ℕ) → drop next s ≡ 32 ∷ rest → (w : List ℕ)
-      → words_of (first_line b) ≡ w ∷ words_of (first_line rest) → number_of w ≡ some z
+      → words_of (first_line b) ≡ w ∷ words_of (first_line rest) → number_of w ≡ Some z
       → p + length (first_line b) ≡ next + 1 + length (first_line rest) → Spells s p b
 
 -- by the digits ds from q on that are read
@@ -87,7 +86,7 @@ module _ (s : List ℕ) (p : ℕ) (b : List ℕ) (minus : Bool) (q : ℕ) (w : L
   spells-more (c ∷ ds) e d n rest g v k = more _ (q + length (c ∷ ds)) e rest g w v (n ∙ rw d) k
 
   spells-stuck : (ds : List ℕ) → decimal_at s p ≡ decimal_from minus q ds → (get_or s (q + length ds) 10 ≡ 10 → ⊥)
-      → (get_or s (q + length ds) 10 ≡ 32 → ⊥) → (ws : List (List ℕ)) → words_of (first_line b) ≡ w ∷ ws → number_of w ≡ none → Spells s p b
+      → (get_or s (q + length ds) 10 ≡ 32 → ⊥) → (ws : List (List ℕ)) → words_of (first_line b) ≡ w ∷ ws → number_of w ≡ None → Spells s p b
   spells-stuck [] e f g ws v n = missing e w ws v n
   spells-stuck (c ∷ ds) e f g ws v n = stuck (q + length (c ∷ ds)) (exactly (signed_by minus (numeral_value 10 (c ∷ ds)))) e f g w ws v n
 
@@ -125,7 +124,7 @@ module _ (s : List ℕ) (p : ℕ) (b sign : List ℕ) (minus : Bool) (q : ℕ) (
   number = law ds (λ h. ap (λ (x : List ℕ). get_or x 0 0) split ∙ starts_with ds r h)
 
   -- a byte that is neither a digit nor the space belongs to the word
-  number-other : (c : ℕ) (rest w : List ℕ) → r ≡ c ∷ rest → number_of (sign ++ ds ++ c ∷ w) ≡ none
+  number-other : (c : ℕ) (rest w : List ℕ) → r ≡ c ∷ rest → number_of (sign ++ ds ++ c ∷ w) ≡ None
   number-other c rest w f =
       let d : is_digit c ≡ false = rw f at free in
       let m : get_or (ds ++ c ∷ w) 0 0 ≡ get_or t 0 0 =

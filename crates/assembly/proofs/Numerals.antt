@@ -1,10 +1,10 @@
 -- Numbers in decimal: what is written of a word is read as the word and is plain; and a plain text that is read as a word is what is
 -- written of it.
 -- Assumes nothing.
+use Rattle.std.proofs.Common.{None, Some}
 use mathlib.Core.Path.{◌≡◌, refl, sym, ap, ap₂, ◌∙◌}
 use mathlib.Core.Bool.{Bool, true, false}
 use mathlib.Core.List.{List, [], ◌∷◌, map, reverse, reverse_aux, reverse-reverse}
-use mathlib.Core.Option.{none, some}
 use Prim.Native.Nat.{ℕ, zero, suc, ◌+◌, ◌-◌, ◌/◌, ◌%◌, ◌^◌, ◌<◌, ◌≤◌}
 use native.Mathlib.Nat.{mod-lt, div-eq_of_lt, pow-le-pow_right, one-le-pow}
 use native.Mathlib.Omega.{arith}
@@ -127,11 +127,11 @@ natural-some n = omega (arith, natural-length n, digit_count-pos 10 19 n)
 -- ════════════════════════════════════════════════════════════════════════════════════════════
 
 digits_number_lem : (minus : Bool) (s : List ℕ) → 0 < length s → all_digits s ≡ true
-    → digits_number minus s ≡ some (signed_by minus (numeral_value 10 s))
+    → digits_number minus s ≡ Some (signed_by minus (numeral_value 10 s))
 digits_number_lem minus [] p e = absurd (omega arith)
 digits_number_lem minus (c ∷ s) p e = rw e
 
-number-plus : (s : List ℕ) → 0 < length s → all_digits s ≡ true → number_of s ≡ some (pos (numeral_value 10 s))
+number-plus : (s : List ℕ) → 0 < length s → all_digits s ≡ true → number_of s ≡ Some (pos (numeral_value 10 s))
 unfolding number_of
 number-plus [] p e = absurd (omega arith)
 number-plus (c ∷ s) p e =
@@ -142,13 +142,13 @@ unfolding number_of
 number-minus s = refl
 
 -- the text of a word is read as the word
-pub number-decimal : (z : ℤ) → Signed 64 z → number_of (decimal z) ≡ some z
+pub number-decimal : (z : ℤ) → Signed 64 z → number_of (decimal z) ≡ Some z
 unfolding decimal
 number-decimal (pos n) h =
-    number-plus (natural n) (natural-some n) (natural-digits n) ∙ ap (λ (m : ℕ). some (pos m)) (natural-value n (omega arith))
+    number-plus (natural n) (natural-some n) (natural-digits n) ∙ ap (λ (m : ℕ). Some (pos m)) (natural-value n (omega arith))
 number-decimal (negsuc n) h =
     number-minus (natural (suc n)) ∙ digits_number_lem true (natural (suc n)) (natural-some (suc n)) (natural-digits (suc n))
-    ∙ ap (λ (m : ℕ). some (signed_by true m)) (natural-value (suc n) (omega arith))
+    ∙ ap (λ (m : ℕ). Some (signed_by true m)) (natural-value (suc n) (omega arith))
 
 -- ════════════════════════════════════════════════════════════════════════════════════════════
 -- And it is plain
@@ -223,15 +223,15 @@ lead-some c s e l = by (numeral_value 10 (c ∷ s)) refl
     by (suc n) f = omega arith
 
 module _ (minus : Bool) (c : ℕ) (s : List ℕ) (z : ℤ) where
-  number_digits : digits_number minus (c ∷ s) ≡ some z → (all_digits (c ∷ s) ≡ true) × (z ≡ signed_by minus (numeral_value 10 (c ∷ s)))
+  number_digits : digits_number minus (c ∷ s) ≡ Some z → (all_digits (c ∷ s) ≡ true) × (z ≡ signed_by minus (numeral_value 10 (c ∷ s)))
   number_digits e = by (all_digits (c ∷ s)) e
     where
-      by : (t : Bool) → choose t (some (signed_by minus (numeral_value 10 (c ∷ s)))) none ≡ some z
+      by : (t : Bool) → choose t (Some (signed_by minus (numeral_value 10 (c ∷ s)))) None ≡ Some z
           → (t ≡ true) × (z ≡ signed_by minus (numeral_value 10 (c ∷ s)))
       by true e = (refl, cc)
       by false e = never (cc)
 
-plus-decimal : (c : ℕ) (s : List ℕ) (z : ℤ) → digits_number false (c ∷ s) ≡ some z → Signed 64 z → plain_digits (c ∷ s) ≡ true
+plus-decimal : (c : ℕ) (s : List ℕ) (z : ℤ) → digits_number false (c ∷ s) ≡ Some z → Signed 64 z → plain_digits (c ∷ s) ≡ true
     → decimal z ≡ c ∷ s
 unfolding decimal
 plus-decimal c s z e h p =
@@ -239,7 +239,7 @@ plus-decimal c s z e h p =
     let r : numeral_value 10 (c ∷ s) < 2 ^ 63 = rw k at h in
     rw k (plain-natural c s d p (omega arith))
 
-minus-decimal : (s : List ℕ) (z : ℤ) → digits_number true s ≡ some z → Signed 64 z → plain_after_minus s ≡ true → decimal z ≡ 45 ∷ s
+minus-decimal : (s : List ℕ) (z : ℤ) → digits_number true s ≡ Some z → Signed 64 z → plain_after_minus s ≡ true → decimal z ≡ 45 ∷ s
 unfolding decimal
 minus-decimal [] z e h p = never (cc)
 minus-decimal (c ∷ s) z e h p =
@@ -254,12 +254,12 @@ minus-decimal (c ∷ s) z e h p =
         let r : n < 2 ^ 63 = rw k at h in rw k (ap (λ (t : List ℕ). 45 ∷ t) (g (omega arith)))
 
 -- a plain text that is read as a word is the word's text
-pub plain-decimal : (w : List ℕ) (z : ℤ) → number_of w ≡ some z → Signed 64 z → plain_operand w ≡ true → decimal z ≡ w
+pub plain-decimal : (w : List ℕ) (z : ℤ) → number_of w ≡ Some z → Signed 64 z → plain_operand w ≡ true → decimal z ≡ w
 unfolding number_of
 plain-decimal [] z e h p = never (cc)
 plain-decimal (c ∷ s) z e h p = by (eqb c 45) refl e p
   where
-    by : (t : Bool) → eqb c 45 ≡ t → choose t (digits_number true s) (digits_number false (c ∷ s)) ≡ some z
+    by : (t : Bool) → eqb c 45 ≡ t → choose t (digits_number true s) (digits_number false (c ∷ s)) ≡ Some z
         → choose t (plain_after_minus s) (plain_digits (c ∷ s)) ≡ true → decimal z ≡ c ∷ s
     by true f e p = minus-decimal s z e h p ∙ ap (λ (d : ℕ). d ∷ s) (sym (eqb-true c 45 f))
     by false f e p = plus-decimal c s z e h p

@@ -1,9 +1,9 @@
 -- The operand of a command at a position of a text is the one that its line says.
 -- Assumes nothing.
+use Rattle.std.proofs.Common.{Err, None, Option, Result, Some}
 use mathlib.Core.Path.{◌≡◌, refl, sym, ap, ◌∙◌}
 use mathlib.Core.Bool.{Bool, true, false}
 use mathlib.Core.List.{List, [], ◌∷◌}
-use mathlib.Core.Option.{Option, none, some}
 use Prim.Native.Nat.{ℕ, zero, suc, ◌+◌, ◌^◌, ◌≤◌}
 use native.Mathlib.Omega.{arith}
 use lib.IntN.{ℤ, pos, negsuc}
@@ -13,8 +13,6 @@ use Rattle.word.specs.Choose.{choose}
 use Rattle.word.specs.Exact.{is_signed, exactly}
 use Rattle.word.specs.Number.{index_of}
 use Rattle.word.specs.Numeral.{number_of, decimal_to, decimal_at}
-use Rattle.word.specs.declared.exact.Exact.{Exact}
-use Rattle.word.specs.declared.number.Index.TheVariants as Index
 use Rattle.word.specs.declared.numeral.Decimal.{Decimal}
 use Rattle.word.specs.declared.numeral.Decimal.TheVariants.{Is, Beyond, Missing}
 use Rattle.word.proofs.Bool.{never}
@@ -26,7 +24,8 @@ use Rattle.program.proofs.Codes.{opcode_of-code_of, opcode-command, operand-comm
 use Rattle.program.proofs.Counting.{arguments-outside, results-outside}
 use Rattle.program.proofs.Ranges.{range-word}
 use Rattle.assembly.specs.declared.line.Line.{Line}
-use Rattle.assembly.specs.declared.line.Line.TheVariants.{Malformed}
+use Rattle.assembly.specs.declared.line.Fault.{Fault}
+use Rattle.assembly.specs.declared.line.Fault.TheVariants.{Malformed}
 use Rattle.assembly.specs.Assembly.{words_of, malformed, outside, says, read_number, read_one, read_two, read_counts, read_operands}
 use Rattle.assembly.specs.Scan.{number_at, spaced_at, counted, counts_after, operand_at, first_line, line_to}
 use Rattle.assembly.proofs.Words.{words-some, drop-after, byte-first}
@@ -61,20 +60,23 @@ NextIs next Missing = Unit {0}
 NextIs next (Beyond i) = i ≡ next
 NextIs next (Is z i) = i ≡ next
 
-next-is : (next : ℕ) (x : Exact) → NextIs next (decimal_to next x)
-next-is next (Exact.Number z) = refl
-next-is next Exact.Outside = refl
+next-is : (next : ℕ) (x : Option ℤ) → NextIs next (decimal_to next x)
+next-is next (Some z) = refl
+next-is next None = refl
 
 next-counted : (next : ℕ) (a : ℤ) (d : Decimal) → NextIs next d → NextIs next (counted a d)
 next-counted next a Missing n = tt
 next-counted next a (Beyond i) n = n
 next-counted next a (Is z i) n = n
 
+abbrev malformed_line : Result Line Fault
+malformed_line = Err Malformed
+
 module _ (s : List ℕ) (o : Opcode) (k : ℕ) (wide : operand_width o ≡ suc k) where
-  abbrev line_by : Decimal → Line
+  abbrev line_by : Decimal → Result Line Fault
   line_by d = number_at s (code_of o) (suc k + 1) d
 
-  is-line : (z : ℤ) (next : ℕ) → get_or s next 10 ≡ 10 → line_by (Is z next) ≡ line_to (next + 1) (read_number o (some z))
+  is-line : (z : ℤ) (next : ℕ) → get_or s next 10 ≡ 10 → line_by (Is z next) ≡ line_to (next + 1) (read_number o (Some z))
   is-line z next e = by (in_range o z) refl
     where
       by : (r : Bool) → in_range o z ≡ r → line_by (Is z next) ≡ line_to (next + 1) (choose r (says (command o z)) outside)
@@ -82,20 +84,20 @@ module _ (s : List ℕ) (o : Opcode) (k : ℕ) (wide : operand_width o ≡ suc k
       by false g = rw (opcode_of-code_of o, g, e)
 
   beyond-line : (z : ℤ) (next : ℕ) → get_or s next 10 ≡ 10 → in_range o z ≡ false
-      → line_by (Beyond next) ≡ line_to (next + 1) (read_number o (some z))
+      → line_by (Beyond next) ≡ line_to (next + 1) (read_number o (Some z))
   beyond-line z next e g = rw (g, e)
 
-  goes-line : (d : Decimal) (next : ℕ) → NextIs next d → (get_or s next 10 ≡ 10 → ⊥) → line_by d ≡ Malformed
+  goes-line : (d : Decimal) (next : ℕ) → NextIs next d → (get_or s next 10 ≡ 10 → ⊥) → line_by d ≡ Err Malformed
   goes-line Missing next n h = refl
   goes-line (Beyond i) next n h = rw (n, ne_eqb (get_or s next 10) 10 h)
   goes-line (Is z i) next n h = rw (n, ne_eqb (get_or s next 10) 10 h) (by (takes_of (opcode_of (code_of o)) z))
     where
-      by : (t : Bool) → choose t Malformed Malformed ≡ Malformed
+      by : (t : Bool) → choose t malformed_line malformed_line ≡ malformed_line
       by true = refl
       by false = refl
 
   -- one number
-  one-exact : (z : ℤ) (next : ℕ) → get_or s next 10 ≡ 10 → line_by (decimal_to next (exactly z)) ≡ line_to (next + 1) (read_number o (some z))
+  one-exact : (z : ℤ) (next : ℕ) → get_or s next 10 ≡ 10 → line_by (decimal_to next (exactly z)) ≡ line_to (next + 1) (read_number o (Some z))
   unfolding exactly
   one-exact z next e = by (is_signed 64 z) refl
     where
@@ -104,11 +106,11 @@ module _ (s : List ℕ) (o : Opcode) (k : ℕ) (wide : operand_width o ≡ suc k
       no f false g = refl
 
       by : (t : Bool) → is_signed 64 z ≡ t
-          → line_by (decimal_to next (choose t (Exact.Number z) Exact.Outside)) ≡ line_to (next + 1) (read_number o (some z))
+          → line_by (decimal_to next (choose t (Some z) None)) ≡ line_to (next + 1) (read_number o (Some z))
       by true f = is-line z next e
       by false f = beyond-line z next e (no f (in_range o z) refl)
 
-  one_none : (w : List ℕ) → number_of w ≡ none → (ws : List (List ℕ)) → read_one o (w ∷ ws) ≡ malformed
+  one_none : (w : List ℕ) → number_of w ≡ None → (ws : List (List ℕ)) → read_one o (w ∷ ws) ≡ malformed
   one_none w n [] = rw n
   one_none w n (v ∷ vs) = refl
 
@@ -128,7 +130,7 @@ module _ (s : List ℕ) (o : Opcode) (k : ℕ) (wide : operand_width o ≡ suc k
 -- ════════════════════════════════════════════════════════════════════════════════════════════
 
 -- what is beyond the words is beyond the counts
-index-beyond : (z : ℤ) (n : ℕ) → n ≤ 2 ^ 63 → is_signed 64 z ≡ false → index_of z n ≡ Index.Outside
+index-beyond : (z : ℤ) (n : ℕ) → n ≤ 2 ^ 63 → is_signed 64 z ≡ false → index_of z n ≡ None
 unfolding index_of
 index-beyond (pos m) n h f = rw (le-ltb m n (omega (arith, ltb-false m (2 ^ 63) f)))
 index-beyond (negsuc m) n h f = refl
@@ -141,29 +143,29 @@ module _ (s : List ℕ) where
   first_count z next = by (is_signed 64 z) refl
     where
       by : (t : Bool) → is_signed 64 z ≡ t
-          → (a : ℤ) × (counts_after s (decimal_to next (choose t (Exact.Number z) Exact.Outside)) ≡ counted a (spaced_at s next))
+          → (a : ℤ) × (counts_after s (decimal_to next (choose t (Some z) None)) ≡ counted a (spaced_at s next))
           × ((d : ℤ) → counts a d ≡ counts z d)
       by true f = (z, refl, λ d. refl)
       by false f = (negsuc 0, refl, λ d. arguments-outside z d (index-beyond z 16 (omega arith) f))
 
   -- without the second there is no word
-  second-missing : (next : ℕ) (x : Exact) → (get_or s next 10 ≡ 32 → ⊥) → counts_after s (decimal_to next x) ≡ Missing
-  second-missing next (Exact.Number z) h = ap (counted z) (spaced-none s next h)
-  second-missing next Exact.Outside h = ap (counted (negsuc 0)) (spaced-none s next h)
+  second-missing : (next : ℕ) (x : Option ℤ) → (get_or s next 10 ≡ 32 → ⊥) → counts_after s (decimal_to next x) ≡ Missing
+  second-missing next (Some z) h = ap (counted z) (spaced-none s next h)
+  second-missing next None h = ap (counted (negsuc 0)) (spaced-none s next h)
 
 -- words that are no two counts
 module _ (o : Opcode) (w : List ℕ) where
-  two-first : number_of w ≡ none → (ws : List (List ℕ)) → read_two o (w ∷ ws) ≡ malformed
+  two-first : number_of w ≡ None → (ws : List (List ℕ)) → read_two o (w ∷ ws) ≡ malformed
   two-first n [] = refl
   two-first n (v ∷ []) = rw n
   two-first n (v ∷ u ∷ us) = refl
 
-  two-second : (v : List ℕ) → number_of v ≡ none → (ws : List (List ℕ)) → read_two o (w ∷ v ∷ ws) ≡ malformed
+  two-second : (v : List ℕ) → number_of v ≡ None → (ws : List (List ℕ)) → read_two o (w ∷ v ∷ ws) ≡ malformed
   two-second v n [] = rw n (by (number_of w))
     where
-      by : (x : Option ℤ) → read_counts o x none ≡ malformed
-      by none = refl
-      by (some a) = refl
+      by : (x : Option ℤ) → read_counts o x None ≡ malformed
+      by None = refl
+      by (Some a) = refl
   two-second v n (u ∷ us) = refl
 
 module _ (s : List ℕ) (o : Opcode) (kind : operand_of o ≡ Counts) where
@@ -174,23 +176,23 @@ module _ (s : List ℕ) (o : Opcode) (kind : operand_of o ≡ Counts) where
   no_word z e = rw (← e, kind)
 
   two-exact : (z a y : ℤ) (next : ℕ) → counts a y ≡ counts z y → get_or s next 10 ≡ 10
-      → line_by s o 1 wide (counted a (decimal_to next (exactly y))) ≡ line_to (next + 1) (read_number o (some (counts z y)))
+      → line_by s o 1 wide (counted a (decimal_to next (exactly y))) ≡ line_to (next + 1) (read_number o (Some (counts z y)))
   unfolding exactly
   two-exact z a y next same e = by (is_signed 64 y) refl
     where
       by : (t : Bool) → is_signed 64 y ≡ t
-          → line_by s o 1 wide (counted a (decimal_to next (choose t (Exact.Number y) Exact.Outside)))
-          ≡ line_to (next + 1) (read_number o (some (counts z y)))
-      by true f = is-line s o 1 wide (counts a y) next e ∙ ap (λ (i : ℤ). line_to (next + 1) (read_number o (some i))) same
+          → line_by s o 1 wide (counted a (decimal_to next (choose t (Some y) None)))
+          ≡ line_to (next + 1) (read_number o (Some (counts z y)))
+      by true f = is-line s o 1 wide (counts a y) next e ∙ ap (λ (i : ℤ). line_to (next + 1) (read_number o (Some i))) same
       by false f =
           beyond-line s o 1 wide (counts z y) next e (no_word (counts z y) (results-outside z y (index-beyond y 2 (omega arith) f)))
 
-  second-goes : (a : ℤ) (next : ℕ) (x : Exact) → (get_or s next 10 ≡ 10 → ⊥) → line_by s o 1 wide (counted a (decimal_to next x)) ≡ Malformed
+  second-goes : (a : ℤ) (next : ℕ) (x : Option ℤ) → (get_or s next 10 ≡ 10 → ⊥) → line_by s o 1 wide (counted a (decimal_to next x)) ≡ Err Malformed
   second-goes a next x h =
       goes-line s o 1 wide (counted a (decimal_to next x)) next (next-counted next a (decimal_to next x) (next-is next x)) h
 
   -- after the first count z, which the word w is
-  second-line : (z a : ℤ) (w : List ℕ) → ((d : ℤ) → counts a d ≡ counts z d) → number_of w ≡ some z → (p : ℕ) (b : List ℕ) → Spells s p b
+  second-line : (z a : ℤ) (w : List ℕ) → ((d : ℤ) → counts a d ≡ counts z d) → number_of w ≡ Some z → (p : ℕ) (b : List ℕ) → Spells s p b
       → line_by s o 1 wide (counted a (decimal_at s p))
       ≡ line_to (p + length (first_line b) + 1) (read_two o (w ∷ words_of (first_line b)))
   second-line z a w same m p b (missing e v vs l n) = rw (e, l, two-second o w v n vs)

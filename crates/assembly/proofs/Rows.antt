@@ -1,9 +1,9 @@
 -- What the texts ask of every row of the table of commands: names without separators, operands of at most eight bytes, and how long a line
 -- is.
 -- Assumes nothing.
+use Rattle.std.proofs.Common.{None, Option, Some}
 use mathlib.Core.Path.{◌≡◌}
 use mathlib.Core.Bool.{true}
-use mathlib.Core.Option.{Option, none, some}
 use Prim.Native.Nat.{ℕ, zero, suc, ◌+◌, ◌≤◌}
 use lib.Dec.{leb, leb→le}
 use lib.ListN.{length}
@@ -22,8 +22,8 @@ pub letters-without : (separator : ℕ) (o : Opcode) → separator ≤ 32 → wi
 letters-without separator o h = without-letters separator (letters o) h (name-letters o)
 
 pub shape-few : (x : Option Opcode) → Few (shape_of x)
-shape-few none = tt
-shape-few (some o) = width-most o
+shape-few None = tt
+shape-few (Some o) = width-most o
 
 -- the most that an operand takes in a line: a space, a minus and 19 digits; a space and the two digits of a page, and so each
 -- of two counts

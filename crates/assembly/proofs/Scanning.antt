@@ -1,9 +1,9 @@
 -- The line that is read at a position of a text, as the code reads it, is what its words say.
 -- Assumes nothing.
+use Rattle.std.proofs.Common.{Err, None, Option, Result, Some}
 use mathlib.Core.Path.{◌≡◌, refl, sym, ap, ◌∙◌}
 use mathlib.Core.Bool.{Bool, true, false}
 use mathlib.Core.List.{List, [], ◌∷◌, ◌++◌, append-nil}
-use mathlib.Core.Option.{Option, none, some}
 use Prim.Native.Nat.{ℕ, zero, suc, ◌+◌, ◌*◌, ◌^◌, ◌<◌, ◌≤◌}
 use native.Mathlib.Omega.{arith}
 use lib.IntN.{pos}
@@ -25,10 +25,11 @@ use Rattle.program.proofs.Naming.{is_letter, all_letters, letters-first, letters
 use Rattle.program.proofs.Naming.{packed_none, packed_more, packed-below, packed-least}
 use Rattle.program.proofs.Naming.{code_named-packed, code_named-zero, opcode_named-long, opcode_named-other, opcode_of-code_or}
 use Rattle.assembly.specs.declared.line.Line.{Line}
-use Rattle.assembly.specs.declared.line.Line.TheVariants.{Is, Malformed}
+use Rattle.assembly.specs.declared.line.Fault.{Fault}
+use Rattle.assembly.specs.declared.line.Fault.TheVariants.{Malformed}
 use Rattle.assembly.specs.declared.line.Letters.{Letters}
 use Rattle.assembly.specs.Assembly.{words_of, read_operands, read_named, read_words}
-use Rattle.assembly.specs.Scan.{letters_to, letters_from, ends_at, number_at, operand_at, shape_at, code_at, line_at}
+use Rattle.assembly.specs.Scan.{reads, letters_to, letters_from, ends_at, number_at, operand_at, shape_at, code_at, line_at}
 use Rattle.assembly.specs.Scan.{first_line, line_to, line_of}
 use Rattle.assembly.proofs.Words.{words-some, words-alone, words-space, words-other, line-letters, line-goes}
 use Rattle.assembly.proofs.Words.{After, ends, goes, line_after, drop-after, byte-first}
@@ -87,10 +88,10 @@ module _ (word at c : ℕ) (r : List ℕ) (h : 32 < c) where
   letters-more k = rw (lt-leb c 32 h, lt-leb (256 ^ 7) word k)
 
 -- what follows a name that was read
-abbrev name_line : List ℕ → Letters → Line
+abbrev name_line : List ℕ → Letters → Result Line Fault
 name_line s l = code_at s (code_named l.word) l.next
 
-name-none : (s : List ℕ) (at : ℕ) → code_at s 0 at ≡ Malformed
+name-none : (s : List ℕ) (at : ℕ) → code_at s 0 at ≡ Err Malformed
 unfolding opcode_of
 name-none s at = refl
 
@@ -139,14 +140,14 @@ module _ (s : List ℕ) where
 
 module _ (s : List ℕ) (n : ℕ) where
   named-ends : (x : Option Opcode) → get_or s n 10 ≡ 10 → shape_at s (code_or x) n (shape_of x) ≡ line_to (n + 1) (read_named x [])
-  named-ends none e = refl
-  named-ends (some o) e = by (operand_of o) refl
+  named-ends None e = refl
+  named-ends (Some o) e = by (operand_of o) refl
     where
       missing : (x : Operand) → operand_at s n x ≡ Missing
       missing x = operand-missing s n (λ h. omega arith) x
 
       by : (x : Operand) → operand_of o ≡ x
-          → choose (eqb (width x) 0) (ends_at s n (Is (code_of o) (pos 0) 1 (n + 1))) (number_at s (code_of o) (width x + 1) (operand_at s n x))
+          → choose (eqb (width x) 0) (ends_at s n (reads (code_of o) (pos 0) 1 (n + 1))) (number_at s (code_of o) (width x + 1) (operand_at s n x))
           ≡ line_to (n + 1) (read_operands o x [])
       by (Signed zero) w = rw (e, opcode-command o (pos 0), operand-command o (pos 0) (λ h. refl), w)
       by (Signed (suc k)) w = rw (ne_eqb (suc k) 0 (λ h. omega arith), missing (Signed (suc k)))
@@ -159,22 +160,22 @@ module _ (s : List ℕ) (n : ℕ) where
 
     named-space : (x : Option Opcode)
         → shape_at s (code_or x) n (shape_of x) ≡ line_to (n + 1 + length (first_line b) + 1) (read_named x (words_of (first_line b)))
-    named-space none = refl
-    named-space (some o) = by (operand_of o) refl
+    named-space None = refl
+    named-space (Some o) = by (operand_of o) refl
       where
         by : (x : Operand) → operand_of o ≡ x
-            → choose (eqb (width x) 0) (ends_at s n (Is (code_of o) (pos 0) 1 (n + 1))) (number_at s (code_of o) (width x + 1) (operand_at s n x))
+            → choose (eqb (width x) 0) (ends_at s n (reads (code_of o) (pos 0) 1 (n + 1))) (number_at s (code_of o) (width x + 1) (operand_at s n x))
             ≡ line_to (n + 1 + length (first_line b) + 1) (read_operands o x (words_of (first_line b)))
         by (Signed zero) w = let e = (words-some (first_line b)).1.1 in rw (byte, e)
         by (Signed (suc k)) w = rw (ne_eqb (suc k) 0 (λ h. omega arith)) (operand-line s o n b space (Signed (suc k)) w (λ h. omega arith))
         by Page w = operand-line s o n b space Page w (λ h. omega arith)
         by Counts w = operand-line s o n b space Counts w (λ h. omega arith)
 
-  named_other : (x : Option Opcode) → (get_or s n 10 ≡ 10 → ⊥) → (get_or s n 10 ≡ 32 → ⊥) → shape_at s (code_or x) n (shape_of x) ≡ Malformed
-  named_other none e f = refl
-  named_other (some o) e f = rw (operand-missing s n f (operand_of o)) (by (eqb (operand_width o) 0))
+  named_other : (x : Option Opcode) → (get_or s n 10 ≡ 10 → ⊥) → (get_or s n 10 ≡ 32 → ⊥) → shape_at s (code_or x) n (shape_of x) ≡ Err Malformed
+  named_other None e f = refl
+  named_other (Some o) e f = rw (operand-missing s n f (operand_of o)) (by (eqb (operand_width o) 0))
     where
-      by : (t : Bool) → choose t (ends_at s n (Is (code_of o) (pos 0) 1 (n + 1))) Malformed ≡ Malformed
+      by : (t : Bool) → choose t (ends_at s n (reads (code_of o) (pos 0) 1 (n + 1))) (Err Malformed) ≡ Err Malformed
       by true = rw (ne_eqb (get_or s n 10) 10 e)
       by false = refl
 
@@ -183,7 +184,7 @@ letters-not [] c w h t = omega (arith, letters-first c w t)
 letters-not (d ∷ m) c w h t = letters-not m c w h (letters-rest d (m ++ c ∷ w) t)
 
 module _ (s m r : List ℕ) (n : ℕ) (letters : T (all_letters m)) (stops : Stops r) (place : drop n s ≡ r) where
-  follows-other : (c : ℕ) (y : List ℕ) → c ≤ 32 → (c ≡ 32 → ⊥) → (i : ℕ) → line_to i (read_words (words_of (m ++ c ∷ y))) ≡ Malformed
+  follows-other : (c : ℕ) (y : List ℕ) → c ≤ 32 → (c ≡ 32 → ⊥) → (i : ℕ) → line_to i (read_words (words_of (m ++ c ∷ y))) ≡ Err Malformed
   follows-other c y h k i =
       let (w, (ws, e)) = words-other m letters c y k in
       rw (e, opcode_named-other (m ++ c ∷ w) (letters-not m c w h))

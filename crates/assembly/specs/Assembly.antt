@@ -1,6 +1,5 @@
 -- Sheets in text (requests U3 and U6): how a text is read into a sheet, and how a sheet is listed as a text.
-use Rattle.std.specs.Prelude.{ℕ, zero, suc, Bool, true, false, List, [], ◌∷◌, ◌++◌, ℤ, pos, length, leb, eqb}
-use Rattle.std.proofs.Math.Option.{Option, none, some}
+use Rattle.std.specs.Prelude.{ℕ, zero, suc, Bool, true, false, List, [], ◌∷◌, ◌++◌, ℤ, pos, length, leb, eqb, Err, None, Ok, Option, Result, Some}
 use Rattle.word.specs.Choose.{choose}
 use Rattle.word.specs.Lay.{laid}
 use Rattle.word.specs.Text.{decimal}
@@ -13,7 +12,6 @@ use Rattle.program.specs.Command.{Opcode, operand_of, counts, arguments_of, resu
 use Rattle.program.specs.Name.{letters, opcode_named}
 use Rattle.program.specs.Decode.{Decoded, refused, accepted, refusal, prepend, decode, command_limit}
 use Rattle.program.specs.Encode.{encode}
-use Rattle.assembly.specs.declared.Written.{Written}
 
 -- ════════════════════════════════════════════════════════════════════════════════════════════
 -- A text is lines, a line is words
@@ -54,8 +52,8 @@ pub data Line : Type 0 where
   says : Command → Line
 
 abbrev pub read_number : Opcode → Option ℤ → Line
-read_number o none = malformed
-read_number o (some z) = choose (in_range o z) (says (command o z)) outside
+read_number o None = malformed
+read_number o (Some z) = choose (in_range o z) (says (command o z)) outside
 
 abbrev pub read_one : Opcode → List (List ℕ) → Line
 read_one o [] = malformed
@@ -64,9 +62,9 @@ read_one o (w ∷ v ∷ ws) = malformed
 
 -- two counts: a word that is in no range where one of them is not in its own
 abbrev pub read_counts : Opcode → Option ℤ → Option ℤ → Line
-read_counts o none d = malformed
-read_counts o (some a) none = malformed
-read_counts o (some a) (some d) = read_number o (some (counts a d))
+read_counts o None d = malformed
+read_counts o (Some a) None = malformed
+read_counts o (Some a) (Some d) = read_number o (Some (counts a d))
 
 abbrev pub read_two : Opcode → List (List ℕ) → Line
 read_two o [] = malformed
@@ -83,8 +81,8 @@ read_operands o Page ws = read_one o ws
 read_operands o Counts ws = read_two o ws
 
 abbrev pub read_named : Option Opcode → List (List ℕ) → Line
-read_named none ws = malformed
-read_named (some o) ws = read_operands o (operand_of o) ws
+read_named None ws = malformed
+read_named (Some o) ws = read_operands o (operand_of o) ws
 
 abbrev pub read_words : List (List ℕ) → Line
 read_words [] = malformed
@@ -140,29 +138,29 @@ listing (c ∷ cs) = line_text c ++ newline ∷ listing cs
 -- ════════════════════════════════════════════════════════════════════════════════════════════
 
 -- bytes to be written, or why there are none
-pub data Result : Type 0 where
-  denied : Refusal → Result
-  given : List ℕ → Result
+pub data Outcome : Type 0 where
+  denied : Refusal → Outcome
+  given : List ℕ → Outcome
 
-abbrev pub result_of : (List Command → List ℕ) → Decoded → Result
+abbrev pub result_of : (List Command → List ℕ) → Decoded → Outcome
 result_of f (refused r) = denied r
 result_of f (accepted cs) = given (f cs)
 
 -- the sheet of a text
-unfoldable pub assembled : List ℕ → Result
+unfoldable pub assembled : List ℕ → Outcome
 assembled text = result_of encode (read_text text)
 
 -- the text of a sheet, refused by the sheet's checks
-unfoldable pub listed : List ℕ → Result
+unfoldable pub listed : List ℕ → Outcome
 listed sheet = result_of listing (decode sheet)
 
 -- how many bytes are written into a buffer; last, 8 with place 4 where it is too short
-abbrev pub answer : Result → List ℕ → Written
-answer (denied r) out = Written.Refused r
+abbrev pub answer : Outcome → List ℕ → Result ℕ Refusal
+answer (denied r) out = Err r
 answer (given bytes) out =
-    choose (leb (length bytes) (length out)) (Written.Length (length bytes)) (Written.Refused (refusal 8 4))
+    choose (leb (length bytes) (length out)) (Ok (length bytes)) (Err (refusal 8 4))
 
 -- the buffer then: the bytes from its start on, the rest as it came; all of it as it came where it is refused
-abbrev pub left : Result → List ℕ → List ℕ
+abbrev pub left : Outcome → List ℕ → List ℕ
 left (denied r) out = out
 left (given bytes) out = choose (leb (length bytes) (length out)) (laid bytes out) out

@@ -1,18 +1,19 @@
 -- Reading a line as the code does: at a position of the text, whose end reads as a newline.
-use Rattle.std.specs.Prelude.{ℕ, suc, ◌+◌, ◌*◌, ◌^◌, ◌≤◌, List, [], ◌∷◌, ℤ, pos, negsuc, length, drop, get_or, leb, eqb}
+use Rattle.std.specs.Prelude.{ℕ, suc, ◌+◌, ◌*◌, ◌^◌, ◌≤◌, List, [], ◌∷◌, ℤ, pos, negsuc, length, drop, get_or, leb, eqb, Err, None, Ok, Option, Result, Some}
 use Rattle.word.specs.Choose.{choose}
 use Rattle.word.specs.Numeral.{decimal_at}
 use Rattle.word.specs.declared.numeral.Decimal.{Decimal}
 use Rattle.program.specs.declared.Operand.{Operand}
 use Rattle.program.specs.declared.Operand.TheVariants.{Signed, Page, Counts}
-use Rattle.program.specs.declared.Shape.{Shape}
 use Rattle.program.specs.Command.{opcode_of, code_of, width, operand_width, counts, opcode, operand}
 use Rattle.program.specs.Fetch.{shape_of, takes_of}
 use Rattle.program.specs.Name.{code_named}
 use Rattle.assembly.specs.declared.line.Line.{Line}
-use Rattle.assembly.specs.declared.line.Line.TheVariants.{Is, Malformed, Outside}
+use Rattle.assembly.specs.declared.line.Fault.{Fault}
+use Rattle.assembly.specs.declared.line.Fault.TheVariants.{Malformed, Outside}
 use Rattle.assembly.specs.declared.line.Letters.{Letters}
 use Rattle.assembly.specs.Assembly as Text
+use Rattle.program.specs.declared.Shape.{Shape}
 
 abbrev pub letters_to : ℕ → ℕ → Letters
 letters_to word next = record { word = word; next = next }
@@ -24,15 +25,19 @@ letters_from word at (c ∷ s) =
     choose (leb c 32) (letters_to word at)
     (choose (leb (256 ^ 7) word) (letters_to 0 at) (letters_from (word * 256 + c) (suc at) s))
 
--- a line that ends at a position
-abbrev pub ends_at : List ℕ → ℕ → Line → Line
-ends_at s at line = choose (eqb (get_or s at 10) 10) line Malformed
+-- a command that was read: its code, its operand, how many bytes it has, and the position after its line
+abbrev pub reads : ℕ → ℤ → ℕ → ℕ → Result Line Fault
+reads code z bytes next = Ok (record { code = code; operand = z; bytes = bytes; next = next })
 
-abbrev pub number_at : List ℕ → ℕ → ℕ → Decimal → Line
-number_at s code size Decimal.Missing = Malformed
-number_at s code size (Decimal.Beyond next) = ends_at s next Outside
+-- of a line that ends at a position
+abbrev pub ends_at : {A : Type 0} → List ℕ → ℕ → Result A Fault → Result A Fault
+ends_at s at line = choose (eqb (get_or s at 10) 10) line (Err Malformed)
+
+abbrev pub number_at : List ℕ → ℕ → ℕ → Decimal → Result Line Fault
+number_at s code size Decimal.Missing = Err Malformed
+number_at s code size (Decimal.Beyond next) = ends_at s next (Err Outside)
 number_at s code size (Decimal.Is z next) =
-    choose (takes_of (opcode_of code) z) (ends_at s next (Is code z size (next + 1))) (ends_at s next Outside)
+    choose (takes_of (opcode_of code) z) (ends_at s next (reads code z size (next + 1))) (ends_at s next (Err Outside))
 
 -- one space and the number after it
 unfoldable pub spaced_at : List ℕ → ℕ → Decimal
@@ -62,20 +67,21 @@ NextWithin n (Decimal.Is z next) = next ≤ n
 NextWithin n (Decimal.Beyond next) = next ≤ n
 NextWithin n Decimal.Missing = Unit {0}
 
-abbrev pub shape_at : List ℕ → ℕ → ℕ → Shape → Line
-shape_at s code at Shape.Unknown = Malformed
-shape_at s code at (Shape.Of x inputs has rule) =
-    choose (eqb (width x) 0) (ends_at s at (Is code (pos 0) 1 (at + 1))) (number_at s code (width x + 1) (operand_at s at x))
+abbrev pub shape_at : List ℕ → ℕ → ℕ → Option Shape → Result Line Fault
+shape_at s code at None = Err Malformed
+shape_at s code at (Some shape) =
+    choose (eqb (width shape.operand) 0) (ends_at s at (reads code (pos 0) 1 (at + 1)))
+    (number_at s code (width shape.operand + 1) (operand_at s at shape.operand))
 
 -- a row of the table of commands: an operand has at most eight bytes
-abbrev pub Few : Shape → Type 0
-Few Shape.Unknown = Unit {0}
-Few (Shape.Of x inputs has rule) = width x ≤ 8
+abbrev pub Few : Option Shape → Type 0
+Few None = Unit {0}
+Few (Some shape) = width shape.operand ≤ 8
 
-abbrev pub code_at : List ℕ → ℕ → ℕ → Line
+abbrev pub code_at : List ℕ → ℕ → ℕ → Result Line Fault
 code_at s code at = shape_at s code at (shape_of (opcode_of code))
 
-unfoldable pub line_at : List ℕ → ℕ → Line
+unfoldable pub line_at : List ℕ → ℕ → Result Line Fault
 line_at s at =
     let name = letters_from 0 at (drop at s) in
     code_at s (code_named name.word) name.next
@@ -90,11 +96,11 @@ first_line [] = []
 first_line (c ∷ s) = choose (eqb c 10) [] (c ∷ first_line s)
 
 -- a line that was read, and the position after it
-abbrev pub line_to : ℕ → Text.Line → Line
-line_to next Text.malformed = Malformed
-line_to next Text.outside = Outside
-line_to next (Text.says c) = Is (code_of (opcode c)) (operand c) (operand_width (opcode c) + 1) next
+abbrev pub line_to : ℕ → Text.Line → Result Line Fault
+line_to next Text.malformed = Err Malformed
+line_to next Text.outside = Err Outside
+line_to next (Text.says c) = reads (code_of (opcode c)) (operand c) (operand_width (opcode c) + 1) next
 
 -- the line at a position
-unfoldable pub line_of : List ℕ → ℕ → Line
+unfoldable pub line_of : List ℕ → ℕ → Result Line Fault
 line_of s at = line_to (at + length (first_line (drop at s)) + 1) (Text.read_line (first_line (drop at s)))

@@ -3,7 +3,7 @@ use Rattle.std.specs.Prelude.{ℕ, ◌≡◌, List, [], ◌∷◌, ◌++◌, map
 use Prim.Native.String.{String}
 use Rattle.word.specs.Text.{ascii}
 use Rattle.program.specs.Decode.{refusal}
-use Rattle.assembly.specs.Assembly.{newline, Result, denied, given, assembled, listed}
+use Rattle.assembly.specs.Assembly.{newline, Outcome, denied, given, assembled, listed}
 
 -- lines, each with its newline
 abbrev pub text : List String → List ℕ
@@ -12,7 +12,7 @@ text (s ∷ ss) = ascii s ++ newline ∷ text ss
 
 pub record Trial : Type 0 where
   pub input : List ℕ
-  pub expected : Result
+  pub expected : Outcome
 
 abbrev pub gives : List ℕ → List ℕ → Trial
 gives input bytes = record { input = input; expected = given bytes }
@@ -86,7 +86,7 @@ sheets =
     ∷ refuses (3 ∷ 13 ∷ 0 ∷ 2 ∷ []) 14 1
     ∷ []
 
-abbrev pub Hold : (List ℕ → Result) → List Trial → Type 0
+abbrev pub Hold : (List ℕ → Outcome) → List Trial → Type 0
 Hold f ts = map (λ (t : Trial). f t.input) ts ≡ map (λ (t : Trial). t.expected) ts
 
 abbrev pub Trials : Type 0

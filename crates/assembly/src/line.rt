@@ -1,5 +1,5 @@
 // One line of a text. Read specs/Scan.antt first.
-ghost use Rattle.std.specs.Prelude.{◌≡◌, ◌<◌, ◌≤◌, length, drop, get_or};
+ghost use Rattle.std.specs.Prelude.{◌≡◌, ◌+◌, ◌<◌, ◌≤◌, Ok, length, drop, get_or};
 ghost use Rattle.assembly.specs.Scan.{letters_from, ends_at, number_at, spaced_at, counts_after, operand_at, NextWithin};
 ghost use Rattle.assembly.specs.Scan.{Few, shape_at, line_of};
 ghost use Rattle.assembly.specs.Scan.{counted as counted_of};
@@ -7,68 +7,81 @@ ghost use Rattle.assembly.specs.Scan.{counted as counted_of};
 use program::{Operand, Shape};
 use word::numeral::Decimal;
 
-// A line: a command's code, its operand or 0, how many bytes it has, and the position after the line; or why it is none.
-#[derive(Drop)]
-pub(crate) enum Line {
-    Is(u64, i64, usize, usize),
+// A line: a command's code, its operand or 0, how many bytes it has, and the position after the line.
+#[derive(Clone, Copy)]
+pub(crate) struct Line {
+    pub code: u64,
+    pub operand: i64,
+    pub bytes: usize,
+    pub next: usize,
+}
+
+// Why a line is no command: it is malformed, or a number of its is out of range.
+#[derive(Clone, Copy)]
+pub(crate) enum Fault {
     Malformed,
     Outside,
 }
 
+// From this word on, eight letters are read.
+const FULL: u64 = 1 << 56;
+
 // What stands before a blank, as a word: 0, which is no name's, where it is longer than 8 bytes; and the position after it.
-#[derive(Drop)]
+#[derive(Clone, Copy)]
 struct Letters {
     word: u64,
     next: usize,
 }
 
 // The line that begins at a position.
-pub(crate) fn line_at(text: &[u8], at: usize) -> Line
+pub(crate) fn line_at(text: &[u8], at: usize) -> Result<Line, Fault>
     requires { at < length text.now }
     ensures { result ≡ line_of text.now at }
 {
     let name = name_at(text, at);
     let code = program::code_of(name.word);
-    let shape = program::shape_of(code);
-    shaped(text, code, name.next, shape)
+    shaped(text, code, name.next, program::shape_of(code))
 }
 
 // The bytes up to the first space, control byte or end.
 fn name_at(text: &[u8], at: usize) -> Letters
+    requires { at ≤ length text.now }
     ensures { result ≡ letters_from 0 at (drop at text.now) }
 {
     let mut word: u64 = 0;
-    let mut i = at;
-    while i < text.len() {
+    for i in at..text.len() {
         let byte = text[i];
-        if byte <= 32 {
+        if byte <= b' ' {
             return Letters { word, next: i };
         }
-        if 72057594037927936 <= word {
+        if FULL <= word {
             return Letters { word: 0, next: i };
         }
         word = word * 256 + byte as u64;
-        i += 1;
     }
-    Letters { word, next: i }
+    Letters {
+        word,
+        next: text.len(),
+    }
 }
 
 // What follows the name of a command.
-fn shaped(text: &[u8], code: u64, at: usize, shape: Shape) -> Line
+fn shaped(text: &[u8], code: u64, at: usize, shape: Option<Shape>) -> Result<Line, Fault>
     requires { (at ≤ length text.now) × Few shape }
     ensures { result ≡ shape_at text.now code at shape }
 {
-    match shape {
-        Shape::Unknown => Line::Malformed,
-        Shape::Of(kind, _, _, _) => {
-            let width = program::width_of(kind);
-            if width == 0 {
-                return ending(text, at, Line::Is(code, 0, 1, at + 1));
-            }
-            let number = operand(text, at, kind);
-            numbered(text, code, width + 1, number)
-        }
+    let kind = shape.ok_or(Fault::Malformed)?.operand;
+    let width = program::width_of(kind);
+    if width == 0 {
+        let next = ending(text, at)?;
+        return Ok(Line {
+            code,
+            operand: 0,
+            bytes: 1,
+            next,
+        });
     }
+    numbered(text, code, width + 1, operand(text, at, kind))
 }
 
 // A command's operand: one number, or the word of two counts.
@@ -78,8 +91,7 @@ fn operand(text: &[u8], at: usize, kind: Operand) -> Decimal
 {
     let first = spaced(text, at);
     match kind {
-        Operand::Signed(_) => first,
-        Operand::Page => first,
+        Operand::Signed(_) | Operand::Page => first,
         Operand::Counts => second(text, first),
     }
 }
@@ -108,6 +120,7 @@ fn counted(arguments: i64, results: Decimal) -> Decimal
 }
 
 // One space and the number after it.
+#[tactic(auto, unfolding(crate::specs::Scan::spaced_at))]
 fn spaced(text: &[u8], at: usize) -> Decimal
     requires { at ≤ length text.now }
     ensures { result ≡ spaced_at text.now at }
@@ -119,31 +132,39 @@ fn spaced(text: &[u8], at: usize) -> Decimal
     }
 }
 
-// A command with its operand, which is in its range and ends the line.
-fn numbered(text: &[u8], code: u64, size: usize, number: Decimal) -> Line
+// A command with its operand, which ends the line and is in its range.
+fn numbered(text: &[u8], code: u64, bytes: usize, number: Decimal) -> Result<Line, Fault>
     requires { NextWithin (length text.now) number }
-    ensures { result ≡ number_at text.now code size number }
+    ensures { result ≡ number_at text.now code bytes number }
 {
     match number {
-        Decimal::Missing => Line::Malformed,
-        Decimal::Beyond(next) => ending(text, next, Line::Outside),
-        Decimal::Is(z, next) => {
-            if program::takes(code, z) {
-                return ending(text, next, Line::Is(code, z, size, next + 1));
+        Decimal::Missing => Err(Fault::Malformed),
+        Decimal::Beyond(at) => ending(text, at).and(Err(Fault::Outside)),
+        Decimal::Is(operand, at) => {
+            let next = ending(text, at)?;
+            if program::takes(code, operand) {
+                Ok(Line {
+                    code,
+                    operand,
+                    bytes,
+                    next,
+                })
+            } else {
+                Err(Fault::Outside)
             }
-            ending(text, next, Line::Outside)
         }
     }
 }
 
-// A line that ends here; it is malformed where it goes on.
-fn ending(text: &[u8], at: usize, line: Line) -> Line
-    ensures { result ≡ ends_at text.now at line }
+// The position after a line that ends here; it is malformed where it goes on.
+fn ending(text: &[u8], at: usize) -> Result<usize, Fault>
+    requires { at ≤ length text.now }
+    ensures { result ≡ ends_at text.now at (Ok (at + 1)) }
 {
     if byte_at(text, at) == b'\n' {
-        line
+        Ok(at + 1)
     } else {
-        Line::Malformed
+        Err(Fault::Malformed)
     }
 }
 
@@ -151,5 +172,5 @@ fn ending(text: &[u8], at: usize, line: Line) -> Line
 fn byte_at(text: &[u8], at: usize) -> u8
     ensures { result ≡ get_or text.now at 10 }
 {
-    if at < text.len() { text[at] } else { b'\n' }
+    text.get(at).copied().unwrap_or(b'\n')
 }

@@ -5,11 +5,10 @@ ghost use Rattle.word.specs.Lay.{laid, laid_at};
 ghost use Rattle.program.specs.Command.{opcode_of};
 ghost use Rattle.assembly.specs.Space.{Counted, Acceptable, Bare, text_of, numbers_in, number_text, operand_in, code_text};
 
-use program::{Fetched, Operand, Shape};
-use word::text::Put;
+use program::Operand;
 
-// The numbers that are written of an operand.
-#[derive(Drop)]
+// The numbers that are written of an operand: none, one or two, which an array beside a length would say no plainer.
+#[derive(Clone, Copy)]
 pub(crate) enum Numbers {
     None,
     One(i64),
@@ -21,10 +20,7 @@ pub(crate) fn fits(sheet: &[u8], count: usize, room: usize) -> bool
     requires { Counted sheet.now count }
     ensures { result ≡ leb (length (text_of sheet.now)) room }
 {
-    if 26 * count <= room {
-        return true;
-    }
-    measure(sheet) <= room
+    26 * count <= room || measure(sheet) <= room
 }
 
 // How long the text of a sheet is.
@@ -34,17 +30,14 @@ fn measure(sheet: &[u8]) -> usize
 {
     let mut at: usize = 0;
     let mut size: usize = 0;
+    // commands differ in length
     while at < sheet.len() {
         let code = sheet[at] as u64;
-        let fetched = program::command_at(sheet, at);
-        match fetched {
-            Fetched::Unknown => return size,
-            Fetched::Cut => return size,
-            Fetched::Is(operand, next) => {
-                size += line_length(code, operand);
-                at = next;
-            }
-        }
+        let Ok((operand, next)) = program::command_at(sheet, at) else {
+            return size;
+        };
+        size += line_length(code, operand);
+        at = next;
     }
     size
 }
@@ -57,21 +50,18 @@ pub(crate) fn write(sheet: &[u8], out: &mut [u8]) -> usize
 {
     let mut at: usize = 0;
     let mut size: usize = 0;
+    // commands differ in length
     while at < sheet.len() {
         let code = sheet[at] as u64;
-        let fetched = program::command_at(sheet, at);
-        match fetched {
-            Fetched::Unknown => return size,
-            Fetched::Cut => return size,
-            Fetched::Is(operand, next) => {
-                if next == at + 1 {
-                    size = put_bare(code, out, size);
-                } else {
-                    size = put_line(code, operand, out, size);
-                }
-                at = next;
-            }
-        }
+        let Ok((operand, next)) = program::command_at(sheet, at) else {
+            return size;
+        };
+        size = if next == at + 1 {
+            put_bare(code, out, size)
+        } else {
+            put_line(code, operand, out, size)
+        };
+        at = next;
     }
     size
 }
@@ -87,8 +77,7 @@ fn line_length(code: u64, operand: i64) -> usize
 fn operand_length(code: u64, operand: i64) -> usize
     ensures { result ≡ length (operand_in (opcode_of code) operand) }
 {
-    let numbers = numbers_of(code, operand);
-    match numbers {
+    match numbers_of(code, operand) {
         Numbers::None => 0,
         Numbers::One(a) => number_length(a),
         Numbers::Two(a, d) => number_length(a) + number_length(d),
@@ -115,7 +104,7 @@ fn put_line(code: u64, operand: i64, out: &mut [u8], at: usize) -> usize
     end + 1
 }
 
-// Writes the line of a command that has no operand: it has a short name.
+// Writes the line of a command that has no operand: it has a short name, and is sooner written so.
 fn put_bare(code: u64, out: &mut [u8], at: usize) -> usize
     requires { Bare (opcode_of code) × (at + length (code_text (opcode_of code) (pos 0)) ≤ length out.old) }
     ensures answer { result ≡ at + length (code_text (opcode_of code) (pos 0)) }
@@ -134,8 +123,7 @@ fn put_operand(code: u64, operand: i64, out: &mut [u8], at: usize) -> usize
     ensures answer { result ≡ at + length (operand_in (opcode_of code) operand) }
     ensures written { out.new ≡ laid_at at (operand_in (opcode_of code) operand) out.old }
 {
-    let numbers = numbers_of(code, operand);
-    match numbers {
+    match numbers_of(code, operand) {
         Numbers::None => at,
         Numbers::One(a) => put_number(a, out, at),
         Numbers::Two(a, d) => {
@@ -152,34 +140,24 @@ fn put_number(number: i64, out: &mut [u8], at: usize) -> usize
     ensures written { out.new ≡ laid_at at (number_text number) out.old }
 {
     out[at] = b' ';
-    let put = word::text::put_decimal(number, out, at + 1);
-    match put {
-        Put::Next(end) => end,
-        Put::NoRoom => at,
-    }
+    word::text::put_decimal(number, out, at + 1).unwrap_or(at)
 }
 
 // The numbers that are written of an operand: none, itself, or two counts.
 fn numbers_of(code: u64, operand: i64) -> Numbers
     ensures { result ≡ numbers_in (opcode_of code) operand }
 {
-    let shape = program::shape_of(code);
-    match shape {
-        Shape::Unknown => Numbers::None,
-        Shape::Of(kind, _, _, _) => match kind {
-            Operand::Signed(width) => {
-                if width == 0 {
-                    return Numbers::None;
-                }
-                Numbers::One(operand)
-            }
-            Operand::Page => Numbers::One(operand),
-            Operand::Counts => {
-                let arguments = program::arguments_of(operand) as i64;
-                let results = program::results_of(operand) as i64;
-                Numbers::Two(arguments, results)
-            }
-        },
+    let Some(shape) = program::shape_of(code) else {
+        return Numbers::None;
+    };
+    match shape.operand {
+        Operand::Signed(0) => Numbers::None,
+        Operand::Signed(_) | Operand::Page => Numbers::One(operand),
+        Operand::Counts => {
+            let arguments = program::arguments_of(operand) as i64;
+            let results = program::results_of(operand) as i64;
+            Numbers::Two(arguments, results)
+        }
     }
 }
 
@@ -188,13 +166,10 @@ fn put_name(word: u64, count: usize, out: &mut [u8], at: usize)
     requires { at + count ≤ length out.old }
     ensures { out.new ≡ laid_at at (reverse (digits_of 256 count word)) out.old }
 {
-    if 3 <= count {
-        if count <= 6 {
-            put_short(word, count, out, at);
-            return;
-        }
+    match count {
+        3..=6 => put_short(word, count, out, at),
+        _ => put_letters(word, count, out, at),
     }
-    put_letters(word, count, out, at);
 }
 
 // Three to six letters are the first three and the last three, which may have some in common: that is sooner done than to count them.
@@ -224,16 +199,14 @@ fn put_three(word: u64, out: &mut [u8], at: usize)
     out[at + 2] = (word % 256) as u8;
 }
 
-// Some letters, one by one.
+// Some letters, one by one: bytes, where the library's digits (`word::text`) are characters of a base up to 16.
 fn put_letters(word: u64, count: usize, out: &mut [u8], at: usize)
     requires { at + count ≤ length out.old }
     ensures { out.new ≡ laid_at at (reverse (digits_of 256 count word)) out.old }
 {
     let mut rest = word;
-    let mut i = count;
-    while 0 < i {
-        i -= 1;
+    for i in (0..count).rev() {
         out[at + i] = (rest % 256) as u8;
-        rest = rest / 256;
+        rest /= 256;
     }
 }

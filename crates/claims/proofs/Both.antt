@@ -1,5 +1,6 @@
 -- Demand 2 of the engines as they are called (specs/Both.antt), of what the tag engine promises.
 -- Assumes nothing.
+use Rattle.std.proofs.Common.{Ok}
 use mathlib.Core.Path.{◌≡◌, sym, ap, ap₂, ◌∙◌, fun_ext}
 use mathlib.Core.List.{List}
 use Prim.Native.Nat.{ℕ}
@@ -8,7 +9,6 @@ use lib.ListN.{length}
 use Rattle.machine.specs.Rule.{Policy, standard}
 use Rattle.engine.specs.declared.Clearances.{Clearances}
 use Rattle.engine.specs.declared.Ran.{Ran}
-use Rattle.engine.specs.declared.Answer.TheVariants as Answer
 use Rattle.engine.specs.Memory.{Memory}
 use Rattle.engine.specs.Ended.{Ended, ended, directly, SameEnd}
 use Rattle.policy.specs.Evaluate.{evaluate}
@@ -46,8 +46,8 @@ tagged-runs sheet bytes row c m handler fuel size kept =
 -- of the standard table: the plain engine's run
 pub tagged-plain : (sheet : List ℕ) (c : Clearances) (m : Memory) (fuel : ℕ) (row handler : List ℤ) → length row ≡ 7
     → (r : Ran) (u : Tag) (after : Memory) (handler' : List ℤ)
-    → tagged sheet standard_bytes row c m handler fuel ≡ left (ended (Answer.Stopped r) u after) handler'
-    → plain sheet c m fuel ≡ ended (Answer.Stopped r) tt after
+    → tagged sheet standard_bytes row c m handler fuel ≡ left (ended (Ok r) u after) handler'
+    → plain sheet c m fuel ≡ ended (Ok r) tt after
 unfolding plain
 tagged-plain sheet c m fuel row handler size r u after handler' e =
     let (t, q, run) = tagged-reads sheet standard_bytes row c m handler fuel size r u after handler' e in

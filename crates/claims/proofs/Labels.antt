@@ -1,5 +1,6 @@
 -- The label words of a job's cells are in range: they are fields of four bytes.
 -- Assumes nothing.
+use Rattle.std.proofs.Common.{None, Ok, Some}
 use mathlib.Core.Path.{◌≡◌, refl}
 use mathlib.Core.Bool.{Bool, true, false}
 use mathlib.Core.List.{List, [], ◌∷◌, ◌++◌}
@@ -9,22 +10,19 @@ use lib.ListN.{length, get_or}
 use lib.Dec.{ltb, leb, eqb}
 use borrow.Author.Tests.{lt-ltb, leb-true}
 use Rattle.word.specs.Choose.{choose}
-use Rattle.word.specs.declared.field.Field.TheVariants.{Cut}
 use Rattle.word.specs.Field.{Bytes, bits_at, whole, unsigned_at, signed_at}
 use Rattle.word.specs.Wrap.{signed}
 use Rattle.word.proofs.Laws.Field.{bits_at-lt}
 use Rattle.label.specs.declared.Label.{Label}
-use Rattle.label.specs.declared.Stored.TheVariants.{Of}
 use Rattle.label.specs.Word.{stored}
 use Rattle.machine.specs.Holds.{Each}
-use Rattle.engine.specs.declared.start.Limit.TheVariants.{Kept}
 use Rattle.engine.specs.Start.{labels_limit}
 use Rattle.report.specs.Job.{Heard, silence, with_cell, with_allowance, with_reader, bad, Reading, reading}
 use Rattle.report.specs.Job.{unsigned, four_at, cell, allowance, reader_set, item_at, follow, read_from, read_job}
 
 -- a word that stores a label
 abbrev Stores : ℤ → Type 0
-Stores z = (x : Label) × (stored z ≡ Of x)
+Stores z = (x : Label) × (stored z ≡ Some x)
 
 pos-stores : (l : ℕ) → l < 2 ^ 32 → Stores (pos l)
 unfolding stored
@@ -34,7 +32,7 @@ stores-append : (zs : List ℤ) (z : ℤ) → Each Stores zs → Stores z → Ea
 stores-append [] z h g = (g, tt)
 stores-append (y ∷ zs) z h g = (h.0, stores-append zs z h.1 g)
 
-stores-kept : (i : ℕ) (zs : List ℤ) → Each Stores zs → labels_limit 5 i zs ≡ Kept
+stores-kept : (i : ℕ) (zs : List ℤ) → Each Stores zs → labels_limit 5 i zs ≡ Ok tt
 unfolding labels_limit
 stores-kept i [] h = refl
 stores-kept i (z ∷ zs) h = rw h.0.1 (stores-kept (suc i) zs h.1)
@@ -86,7 +84,7 @@ module _ (s : List ℕ) (bytes : Bytes s) (on : ℕ → Heard → Reading)
       let amount = allowance (four_at s (at + 1)) in
       let set = reader_set (four_at s (at + 1)) in
       let sheet = item_at (0x43 ∷ []) 0 in
-      let unknown = allowance (unsigned Cut) in
+      let unknown = allowance (unsigned None) in
       let last = choose (eqb code 0x43) sheet unknown in
       let rest = choose (eqb code 0x42) set last in
       choose-has (λ i. Ranged (follow i at h on)) (eqb code 0x40) (cell (signed_at 8 s (at + 1)) (four_at s (at + 9)))
@@ -103,7 +101,7 @@ from-ranged s bytes (suc n) at h g =
     choose-has Ranged (ltb at (length s)) (follow (item_at s at) at h on) (reading h (bad (length s)))
     (item-ranged s bytes on (λ at' h' g'. from-ranged s bytes n at' h' g') at h g) g
 
-pub labels-kept : (job : List ℕ) → Bytes job → labels_limit 5 0 (read_job job).heard.labels ≡ Kept
+pub labels-kept : (job : List ℕ) → Bytes job → labels_limit 5 0 (read_job job).heard.labels ≡ Ok tt
 unfolding read_job
 labels-kept job bytes =
     stores-kept 0 _

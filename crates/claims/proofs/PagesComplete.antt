@@ -19,6 +19,7 @@ use Rattle.word.proofs.Laws.Numeral.{numeral-none, numeral-cons, numeral-length}
 use Rattle.machine.specs.declared.Kind.{Kind}
 use Rattle.machine.specs.declared.Kind.TheVariants.{Number, End}
 use Rattle.machine.specs.Atom.{Line, end_line}
+use Rattle.machine.specs.State.{stop_number}
 use Rattle.machine.specs.Holds.{Each}
 use Rattle.machine.specs.Claim.{view}
 use Rattle.machine.specs.End.{is_end, has_end, Whole}
@@ -219,7 +220,7 @@ pages-meant job e r stopped =
     let s : Shown (read_job job).heard (sheet_of job) (page_of job) = shown job e in
     let v = view (reader_of job) s.lines in
     let same : s.ran ≡ r = let x = sym s.stopped ∙ stopped in cc in
-    let means : Views.Means (reader_of job) v s.ran.stop s.ran.machine.label.0 = runs-meant _ _ _ _ _ _ s.by in
+    let means : Views.Means (reader_of job) v (stop_number s.ran.stop) s.ran.machine.label.0 = runs-meant _ _ _ _ _ _ s.by in
     subst (Means job) same
     (record {
       present = λ ends. means.present (ends-end v (subst Ends s.is ends));

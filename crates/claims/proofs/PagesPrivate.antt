@@ -1,5 +1,6 @@
 -- Demand 3 for pages (specs/Pages.antt): a page is the text of its reader's view of the run's lines.
 -- Assumes nothing.
+use Rattle.std.proofs.Common.{Err, Ok, Result}
 use mathlib.Core.Path.{◌≡◌, refl, sym, ap, subst, ◌∙◌}
 use mathlib.Core.Bool.{Bool, true, false}
 use mathlib.Core.List.{List, [], ◌∷◌, ◌++◌}
@@ -12,10 +13,10 @@ use Rattle.word.specs.Choose.{choose}
 use Rattle.word.specs.Lay.{laid}
 use Rattle.word.proofs.Bool.{never}
 use Rattle.label.specs.Label.{flows}
+use Rattle.program.specs.declared.Refusal.{Refusal}
 use Rattle.machine.specs.Atom.{Line}
 use Rattle.machine.specs.Claim.{keep, view, OneStartsOther}
 use Rattle.engine.specs.declared.Ran as Engine
-use Rattle.engine.specs.declared.Answer.{Answer}
 use Rattle.engine.specs.Memory.{all_cleared, Memory}
 use Rattle.engine.specs.Layout.{cells_of}
 use Rattle.engine.specs.Ended.{Ended, ended}
@@ -53,7 +54,7 @@ lines-view S (l ∷ ls) = by (flows l.label S) (lines-view S ls)
 pub record Shown (h : Heard) (bytes : List ℕ) (page : List ℕ) : Type 0 where
   pub ran : Engine.Ran
   pub lines : List Line
-  pub stopped : (end_for (cell_words_of h) h.allowance bytes).ended.answer ≡ Answer.Stopped ran
+  pub stopped : (end_for (cell_words_of h) h.allowance bytes).ended.answer ≡ Ok ran
   pub by : Ran bytes all_cleared (cells_of (cell_words_of h)) ran lines
   pub is : page ≡ texts line_text (view h.reader lines)
 
@@ -64,11 +65,11 @@ shown-run h bytes e =
     let x : Left = end_for (cell_words_of h) h.allowance bytes in
     go x.ended.answer x.ended.ruler x.ended.memory x.handler refl e
   where
-    go : (a : Answer) (u : Tag) (m : Memory) (handler : List ℤ)
+    go : (a : Result Engine.Ran Refusal) (u : Tag) (m : Memory) (handler : List ℤ)
         → end_for (cell_words_of h) h.allowance bytes ≡ left (ended a u m) handler → answered a ≡ Pages.ran
         → Shown h bytes (answer_text h.reader a m.output)
-    go (Answer.Refused r) u m handler d e = never (cc)
-    go (Answer.Stopped ran) u m handler d e =
+    go (Err r) u m handler d e = never (cc)
+    go (Ok ran) u m handler d e =
         record {
           ran = ran;
           lines = lines_in ran m;
@@ -111,9 +112,9 @@ pages-private = pages-related OneStartsOther runs-private OneStartsOther (texts-
 unrun-answer : (reader : ℕ) (e : Ended Tag) → Says (ended_text reader e) (answered e.answer)
 unrun-answer reader e = go e.answer
   where
-    go : (a : Answer) → Says (answer_text reader a e.memory.output) (answered a)
-    go (Answer.Refused r) = refl
-    go (Answer.Stopped x) = tt
+    go : (a : Result Engine.Ran Refusal) → Says (answer_text reader a e.memory.output) (answered a)
+    go (Err r) = refl
+    go (Ok x) = tt
 
 pub pages-unrun : Unrun
 unfolding fate_of page_of run_text

@@ -1,6 +1,7 @@
 -- Refusals of jobs (specs/Pages.antt): a job has at most 1,024 cells, each with a label in range, so its start is refused or accepted as
 -- one without cells is.
 -- Assumes nothing.
+use Rattle.std.proofs.Common.{Ok}
 use mathlib.Core.Path.{◌≡◌, refl, sym, ap, ap₂, subst, ◌∙◌}
 use mathlib.Core.Logic.{inl}
 use mathlib.Core.List.{List, []}
@@ -12,7 +13,6 @@ use Rattle.word.specs.Field.{Bytes}
 use Rattle.word.proofs.Bool.{never}
 use Rattle.program.specs.Decode.{Decoded, refused, accepted, decode}
 use Rattle.machine.specs.Claim.{OneStartsOther}
-use Rattle.engine.specs.declared.start.Limit.TheVariants.{Kept}
 use Rattle.engine.specs.declared.start.Given.{Given}
 use Rattle.engine.specs.declared.start.Own.{Own}
 use Rattle.engine.specs.Memory.{all_cleared}
@@ -45,7 +45,7 @@ without fuel = record { values = []; labels = []; allowance = fuel; reader = 0 }
 abbrev sheet_fate : List ℕ → ℕ → Fate
 sheet_fate bytes fuel = start_fate (started (without fuel) bytes)
 
-module _ (h : Heard) (few : Few h) (labels : labels_limit 5 0 h.labels ≡ Kept) (bytes : List ℕ) where
+module _ (h : Heard) (few : Few h) (labels : labels_limit 5 0 h.labels ≡ Ok tt) (bytes : List ℕ) where
   abbrev lengths : (values program stack : ℕ) → Given
   lengths values program stack = record { values = values; program = program; stack = stack; fuel = h.allowance }
 

@@ -1,6 +1,7 @@
 -- Demand 3 (specs/Privacy.antt): what an accepted run leaves on either engine is the machine's run of the sheet's commands under the
 -- standard policy, from the same cells, and its lines stand in the output space; so the machine's theorem speaks of it.
 -- Assumes nothing.
+use Rattle.std.proofs.Common.{Ok}
 use mathlib.Core.Path.{◌≡◌, refl, sym, ap, ap₂, subst, ◌∙◌}
 use mathlib.Core.Bool.{true}
 use mathlib.Core.List.{List, [], ◌∷◌}
@@ -12,7 +13,7 @@ use Rattle.word.proofs.Bool.{never}
 use Rattle.program.specs.Decode.{Decoded, refused, accepted, decode}
 use Rattle.machine.specs.Atom.{Atom, Line}
 use Rattle.machine.specs.Rule.{standard, fixed}
-use Rattle.machine.specs.State.{start}
+use Rattle.machine.specs.State.{start, stop_number}
 use Rattle.machine.specs.Claim.{view, OneStartsOther, Alike, none, same}
 use Rattle.machine.specs.Claim as Machine
 use Rattle.machine.specs.End.{has_end, Whole, Tells, Means}
@@ -26,7 +27,6 @@ use Rattle.machine.proofs.Page.{standard-pages, decoded-pages, pages-kept}
 use Rattle.machine.proofs.Clearance.{lines-cleared, standard-closed}
 use Rattle.engine.specs.declared.Clearances.{Clearances}
 use Rattle.engine.specs.declared.Ran as Engine
-use Rattle.engine.specs.declared.Answer.TheVariants as Answer
 use Rattle.engine.specs.Memory.{Output, Memory, surroundings}
 use Rattle.engine.specs.Start as Start
 use Rattle.engine.specs.Ended.{Ended, ended, summary, begin, result_of, engine_of}
@@ -52,11 +52,11 @@ record Runs (sheet : List ℕ) (c : Clearances) (cells : List Atom) (ran : Engin
   are : lines ≡ (run (fixed standard) (surroundings c space) commands fuel (start cells) tt).state.lines
 
 plain_runs : (sheet : List ℕ) (c : Clearances) (m : Memory) (fuel : ℕ) (p : Engine.Ran) (after : Memory)
-    → plain sheet c m fuel ≡ ended (Answer.Stopped p) tt after → Runs sheet c (cells_in m) p (lines_in p after)
+    → plain sheet c m fuel ≡ ended (Ok p) tt after → Runs sheet c (cells_in m) p (lines_in p after)
 unfolding plain
 plain_runs sheet c m fuel p after e = go (answer sheet c m fuel Start.none_own) refl e
   where
-    go : (d : Decoded) → answer sheet c m fuel Start.none_own ≡ d → engine_of (fixed standard) d tt c m fuel ≡ ended (Answer.Stopped p) tt after
+    go : (d : Decoded) → answer sheet c m fuel Start.none_own ≡ d → engine_of (fixed standard) d tt c m fuel ≡ ended (Ok p) tt after
         → Runs sheet c (cells_in m) p (lines_in p after)
     go (refused r) is e = let answered = ap (λ (x : Ended Unit). x.answer) e in never (cc)
     go (accepted cs) is e =
@@ -127,8 +127,8 @@ pub runs-meant : Meant
 runs-meant S sheet c cells ended lines ran =
     let r = ran-runs sheet c ran in
     let result : Result Unit = run (fixed standard) (surroundings c r.space) r.commands r.fuel (start cells) tt in
-    subst (λ (ls : List Line). Means S (view S ls) ended.stop ended.machine.label.0) (sym r.are)
-    (subst (λ (x : Engine.Ran). Means S (view S result.state.lines) x.stop x.machine.label.0) (sym r.ended)
+    subst (λ (ls : List Line). Means S (view S ls) (stop_number ended.stop) ended.machine.label.0) (sym r.are)
+    (subst (λ (x : Engine.Ran). Means S (view S result.state.lines) (stop_number x.stop) x.machine.label.0) (sym r.ended)
     (meant Unit (fixed standard) r.commands S cells (surroundings c r.space) r.fuel tt))
 
 -- request U5: what a page's clearance is for

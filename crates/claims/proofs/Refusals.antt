@@ -1,5 +1,6 @@
 -- Demand 1 (specs/Refusals.antt): each limit decides its check, and the first that is broken decides the start.
 -- Assumes nothing.
+use Rattle.std.proofs.Common.{Err, Ok, Result}
 use mathlib.Core.Path.{◌≡◌, refl, sym, ap, ◌∙◌}
 use mathlib.Core.Bool.{Bool, true, false}
 use mathlib.Core.List.{List, [], ◌∷◌}
@@ -16,13 +17,10 @@ use Rattle.program.specs.declared.Refusal.{Refusal}
 use Rattle.program.specs.Decode.{Decoded, decode}
 use Rattle.program.specs.Decode as Decode
 use Rattle.machine.specs.Rule.{Ruler, standard, fixed}
-use Rattle.machine.specs.Run.{Result}
+use Rattle.machine.specs.Run.{Result as RunResult}
 use Rattle.machine.proofs.Run.{run-steps}
 use Rattle.machine.proofs.Stops.{stop-number}
 use Rattle.engine.specs.declared.Clearances.{Clearances}
-use Rattle.engine.specs.declared.Answer.TheVariants as Answer
-use Rattle.engine.specs.declared.start.Limit.{Limit}
-use Rattle.engine.specs.declared.start.Limit.TheVariants.{Broken, Kept}
 use Rattle.engine.specs.declared.start.Own as Limits
 use Rattle.engine.specs.Memory.{Memory, surroundings}
 use Rattle.engine.specs.Start.{kept_if, or_else, first_of, or_label, labels_limit, given, limits, within, start_decoded, start_of}
@@ -45,19 +43,19 @@ use Rattle.claims.specs.Refusals.{Checks, Demand, StoppedBy, TaggedDemand, Plain
 -- ════════════════════════════════════════════════════════════════════════════════════════════
 
 -- a limit is broken with the one refusal that a check gives, and kept where it gives none
-data Decides (c : Refusal → Type 0) : Limit → Type 0 where
-  refuses : {r : Refusal} → c r → ((q : Refusal) → c q → q ≡ r) → Decides c (Broken r)
-  passes : Nothing c → Decides c Kept
+data Decides (c : Refusal → Type 0) : Result (Unit {0}) Refusal → Type 0 where
+  refuses : {r : Refusal} → c r → ((q : Refusal) → c q → q ≡ r) → Decides c (Err r)
+  passes : Nothing c → Decides c (Ok tt)
 
 module _ {c d : Refusal → Type 0} where
-  first-decides : {r : Refusal} → c r → ((q : Refusal) → c q → q ≡ r) → Decides (c before d) (Broken r)
+  first-decides : {r : Refusal} → c r → ((q : Refusal) → c q → q ≡ r) → Decides (c before d) (Err r)
   first-decides {r} given one = refuses (first given) go
     where
       go : (q : Refusal) → (c before d) q → q ≡ r
       go q (first p) = one q p
       go q (next none p) = absurd (none r given)
 
-  next-decides : {y : Limit} → Nothing c → Decides d y → Decides (c before d) y
+  next-decides : {y : Result (Unit {0}) Refusal} → Nothing c → Decides d y → Decides (c before d) y
   next-decides none (refuses {r = r} given one) = refuses (next none given) go
     where
       go : (q : Refusal) → (c before d) q → q ≡ r
@@ -69,7 +67,7 @@ module _ {c d : Refusal → Type 0} where
       go q (first p) = none q p
       go q (next _ p) = other q p
 
-  before-decides : {x y : Limit} → Decides c x → (x ≡ Kept → Decides d y) → Decides (c before d) (or_else x y)
+  before-decides : {x y : Result (Unit {0}) Refusal} → Decides c x → (x ≡ Ok tt → Decides d y) → Decides (c before d) (or_else x y)
   before-decides (refuses given one) on = first-decides given one
   before-decides (passes none) on = next-decides none (on refl)
 
@@ -129,12 +127,12 @@ labels-decides check i (pos n ∷ ws) = go (ltb n (2 ^ 32)) refl (labels-decides
 -- an engine's own limits decide its own checks; the later ones where the rules are a table
 record Owns (own : Own) (lim : Limits.Own) : Type 0 where
   rules : Decides own.rules lim.rules
-  row : lim.rules ≡ Kept → Decides own.row lim.row
-  handler : lim.rules ≡ Kept → Decides own.handler lim.handler
+  row : lim.rules ≡ Ok tt → Decides own.row lim.row
+  handler : lim.rules ≡ Ok tt → Decides own.handler lim.handler
 
-abbrev limit_of : Decoded → Limit
-limit_of (Decode.refused r) = Broken r
-limit_of (Decode.accepted cs) = Kept
+abbrev limit_of : Decoded → Result (Unit {0}) Refusal
+limit_of (Decode.refused r) = Err r
+limit_of (Decode.accepted cs) = Ok tt
 
 module _ (sheet : List ℕ) (c : Clearances) (m : Memory) (fuel : ℕ) (own : Own) (lim : Limits.Own) (owns : Owns own lim) where
   start-decides : (d : Decoded) → decode sheet ≡ d
@@ -156,14 +154,14 @@ module _ (sheet : List ℕ) (c : Clearances) (m : Memory) (fuel : ℕ) (own : Ow
       before-decides (owns.handler kept) (λ k.
       before-decides (wanted fuel 1000000) (λ k. passes (λ r h. h))))))))))))))
     where
-      go : (x : Limit) → Decides (Checks sheet c m fuel own) x → Decides (Checks sheet c m fuel own) (limit_of (within x cs))
-      go (Broken r) h = h
-      go Kept h = h
+      go : (x : Result (Unit {0}) Refusal) → Decides (Checks sheet c m fuel own) x → Decides (Checks sheet c m fuel own) (limit_of (within x cs))
+      go (Err r) h = h
+      go (Ok tt) h = h
 
 -- what an engine leaves, by what its start came to
 module _ {R : Type 0} (ρ : Ruler R) (u : R) (c : Clearances) (m : Memory) (fuel : ℕ) {checks : Refusal → Type 0} where
   engine-demand : (d : Decoded) → Decides checks (limit_of d)
-      → Demand checks (λ r. engine_of ρ d u c m fuel ≡ ended (Answer.Refused r) u m) (StoppedBy fuel (engine_of ρ d u c m fuel))
+      → Demand checks (λ r. engine_of ρ d u c m fuel ≡ ended (Err r) u m) (StoppedBy fuel (engine_of ρ d u c m fuel))
   engine-demand (Decode.refused r) (refuses given one) =
       record {
         only = λ q e. let k = ap (λ (x : Ended R). x.answer) e in let same : r ≡ q = cc in rw same at given;
@@ -171,7 +169,7 @@ module _ {R : Type 0} (ρ : Ruler R) (u : R) (c : Clearances) (m : Memory) (fuel
         otherwise = λ none. absurd (none r given);
       }
   engine-demand (Decode.accepted cs) (passes none) =
-      let r : Result R = result_of ρ cs u c m fuel in
+      let r : RunResult R = result_of ρ cs u c m fuel in
       let h = (run-steps ρ (surroundings c m.output) cs fuel (begin m) u).most in
       record {
         only = λ q e. let k = ap (λ (x : Ended R). x.answer) e in never (cc);
@@ -212,7 +210,7 @@ module _ (sheet : List ℕ) (c : Clearances) (m : Memory) (fuel : ℕ) (bytes : 
   leaves d = tagged_of d (read_table bytes) row c m handler fuel
 
   tagged-left : (d : Decoded) → Decides checks (limit_of d)
-      → Demand checks (λ r. (leaves d).ended ≡ ended (Answer.Refused r) (tag_of row) m) (StoppedBy fuel (leaves d).ended)
+      → Demand checks (λ r. (leaves d).ended ≡ ended (Err r) (tag_of row) m) (StoppedBy fuel (leaves d).ended)
       → TaggedDemand sheet c m fuel bytes row handler (leaves d)
   tagged-left (Decode.refused r) h g =
       record {

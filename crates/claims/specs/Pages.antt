@@ -1,13 +1,14 @@
 -- Demand 3 for pages: what the page of a job tells its reader. This file states it; proofs/PagesPrivate.antt, PagesComplete.antt and
 -- PagesRefused.antt show it.
-use Rattle.std.specs.Prelude.{ℕ, ◌≤◌, ◌≡◌, ◌≢◌, ◌⊎◌, true, false, List, [], ◌++◌, length, drop}
+use Rattle.std.specs.Prelude.{ℕ, ◌≤◌, ◌≡◌, ◌≢◌, ◌⊎◌, true, false, List, [], ◌++◌, length, drop, Err, Ok, Result}
 use Rattle.word.specs.Field.{Bytes}
 use Rattle.label.specs.Label.{flows}
+use Rattle.program.specs.declared.Refusal.{Refusal}
 use Rattle.machine.specs.Atom.{Atom, end_line}
+use Rattle.machine.specs.State.{stop_number}
 use Rattle.machine.specs.Claim.{Alike, Start, OneStartsOther}
 use Rattle.step.specs.Lent.{Cells, cells}
 use Rattle.engine.specs.declared.Ran as Engine
-use Rattle.engine.specs.declared.Answer.{Answer}
 use Rattle.engine.specs.Layout.{cells_of}
 use Rattle.report.specs.Job.{Heard, Ending, sheet, read_job, sheet_of}
 use Rattle.report.specs.Job as Job
@@ -34,9 +35,9 @@ pub data Fate : Type 0 where
   refused : ℕ → ℕ → Fate
   ran : Fate
 
-abbrev pub answered : Answer → Fate
-answered (Answer.Refused r) = refused r.code r.position
-answered (Answer.Stopped x) = ran
+abbrev pub answered : Result Engine.Ran Refusal → Fate
+answered (Err r) = refused r.code r.position
+answered (Ok x) = ran
 
 abbrev pub fate_from : List ℕ → Heard → Ending → Fate
 fate_from job h (Job.bad offset) = bad offset
@@ -77,15 +78,15 @@ Complete = Related Tells
 
 -- and what it tells of the run: with it, that the run met stop 0, at a place whose label is inside the reader's set; without, that it met
 -- another stop, or that it ended at a place whose label is outside
-abbrev pub answer_to : List ℕ → Answer
+abbrev pub answer_to : List ℕ → Result Engine.Ran Refusal
 answer_to job = let h : Heard = (read_job job).heard in (end_for (cell_words_of h) h.allowance (sheet_of job)).ended.answer
 
 pub record Means (job : List ℕ) (r : Engine.Ran) : Type 0 where
-  pub present : Ends (page_of job) → (r.stop ≡ 0) × (flows r.machine.label.0 (reader_of job) ≡ true)
-  pub missing : (Ends (page_of job) → ⊥) → (r.stop ≢ 0) ⊎ (flows r.machine.label.0 (reader_of job) ≡ false)
+  pub present : Ends (page_of job) → (stop_number r.stop ≡ 0) × (flows r.machine.label.0 (reader_of job) ≡ true)
+  pub missing : (Ends (page_of job) → ⊥) → (stop_number r.stop ≢ 0) ⊎ (flows r.machine.label.0 (reader_of job) ≡ false)
 
 abbrev pub Meant : Type 0
-Meant = (job : List ℕ) → fate_of job ≡ ran → (r : Engine.Ran) → answer_to job ≡ Answer.Stopped r → Means job r
+Meant = (job : List ℕ) → fate_of job ≡ ran → (r : Engine.Ran) → answer_to job ≡ Ok r → Means job r
 
 -- a job that is not run prints one line, which says so and nothing else
 abbrev pub Says : List ℕ → Fate → Type 0

@@ -1,10 +1,11 @@
 -- Demand 3: what a reader of a set of owners sees of two whole runs, each on either engine, from starts that its engine accepts; and what
 -- the end line tells him. A run is what the engines' contracts say of it (`plain`, `tagged`). This file states it; proofs/Private.antt
 -- shows it.
-use Rattle.std.specs.Prelude.{ℕ, ◌≡◌, true, List, ℤ, length}
+use Rattle.std.specs.Prelude.{ℕ, ◌≡◌, true, List, ℤ, length, Ok}
 use Rattle.word.specs.Field.{Bytes}
 use Rattle.label.specs.Label.{flows}
 use Rattle.machine.specs.Atom.{Atom, Line}
+use Rattle.machine.specs.State.{stop_number}
 use Rattle.machine.specs.Claim.{view, Alike, OneStartsOther}
 use Rattle.machine.specs.End.{Tells, Means}
 use Rattle.machine.specs.Holds.{Each}
@@ -12,7 +13,6 @@ use Rattle.machine.specs.Page.{TellsPage, OnPages}
 use Rattle.machine.specs.Clearance.{PageAlike}
 use Rattle.engine.specs.declared.Clearances.{Clearances}
 use Rattle.engine.specs.declared.Ran as Engine
-use Rattle.engine.specs.declared.Answer.TheVariants as Answer
 use Rattle.engine.specs.Memory.{Memory, clearance_of}
 use Rattle.engine.specs.Layout.{cells_of, lines_of}
 use Rattle.engine.specs.Ended.{ended}
@@ -34,12 +34,12 @@ lines_in ran m = lines_of ran.machine.lines m.output
 pub data Ran (sheet : List ℕ) (c : Clearances) : List Atom → Engine.Ran → List Line → Type 0 where
   on_plain :
       (m : Memory) (fuel : ℕ) (ran : Engine.Ran) (after : Memory)
-      → plain sheet c m fuel ≡ ended (Answer.Stopped ran) tt after
+      → plain sheet c m fuel ≡ ended (Ok ran) tt after
       → Ran sheet c (cells_in m) ran (lines_in ran after)
   on_tagged :
       (row : List ℤ) → length row ≡ 7
       → (m : Memory) (handler : List ℤ) (fuel : ℕ) (ran : Engine.Ran) (u : Tag) (after : Memory) (handler' : List ℤ)
-      → tagged sheet standard_bytes row c m handler fuel ≡ left (ended (Answer.Stopped ran) u after) handler'
+      → tagged sheet standard_bytes row c m handler fuel ≡ left (ended (Ok ran) u after) handler'
       → Ran sheet c (cells_in m) ran (lines_in ran after)
 
 -- for every set of owners, every sheet and any two runs of it from cells that are alike for the set, each on either engine and with
@@ -62,7 +62,7 @@ Complete = Views Tells
 abbrev pub Meant : Type 0
 Meant =
     (S : ℕ) (sheet : List ℕ) (c : Clearances) (cells : List Atom) (ran : Engine.Ran) (lines : List Line) →
-    Ran sheet c cells ran lines → Means S (view S lines) ran.stop ran.machine.label.0
+    Ran sheet c cells ran lines → Means S (view S lines) (stop_number ran.stop) ran.machine.label.0
 
 -- a page of its own is as private as the whole: the same of the lines of one page, whichever it is
 abbrev pub EachPage : Type 0

@@ -1,14 +1,16 @@
 -- Document 01's twelve starred readings, R1 to R12, with request U1's end lines, U2's stop 9, U4's pages and U5's clearances, and what
 -- they leave open: what is asked of the engines and of the page, and what each must give. proofs/Readings.antt computes them.
-use Rattle.std.specs.Prelude.{ℕ, ◌+◌, ◌^◌, ◌*◌, ◌-◌, List, [], ◌∷◌, ◌++◌, map, ℤ, pos, negsuc, replicate, set}
+use Rattle.std.specs.Prelude.{ℕ, ◌+◌, ◌^◌, ◌*◌, ◌-◌, List, [], ◌∷◌, ◌++◌, map, ℤ, pos, negsuc, replicate, set, Err, Ok, Result}
 use Rattle.program.specs.declared.Command.{Command}
 use Rattle.program.specs.declared.Command.TheVariants.{Add, Sub, Output, Push, Load, Store, Jump, Bnz, Call, Ret, OutputTo, CallN, RetV}
+use Rattle.program.specs.declared.Refusal.{Refusal}
 use Rattle.program.specs.Encode.{encode}
 use Rattle.machine.specs.Atom.{Atom, Line, number_line, end_line}
+use Rattle.machine.specs.State.{stop_number}
 use Rattle.machine.specs.Step.{atom}
 use Rattle.step.specs.Lent.{cells}
 use Rattle.engine.specs.declared.Clearances.{Clearances}
-use Rattle.engine.specs.declared.Answer.{Answer}
+use Rattle.engine.specs.declared.Ran.{Ran}
 use Rattle.engine.specs.Memory.{output, all_cleared, Memory}
 use Rattle.engine.specs.Memory as Lent
 use Rattle.engine.specs.Ended.{Ended}
@@ -40,7 +42,7 @@ pub data Question : Type 0 where
   row_after : Setting → Question
   page_for : List ℕ → Question
 
--- a refusal's number and place; a run's stop, steps and lines; the cells; the seven words; the bytes
+-- a refusal's number and place; a run's stop by its number, its steps and its lines; the cells; the seven words; the bytes
 pub data Given : Type 0 where
   refused : (number place : ℕ) → Given
   run : (stop steps : ℕ) → List Line → Given
@@ -59,9 +61,9 @@ lent_to s =
 abbrev pub execute : Setting → Ended Tag
 execute s = (tagged (encode s.program) standard_bytes s.row s.clearances (lent_to s) handler_space s.fuel).ended
 
-abbrev pub ending : Answer → Memory → Given
-ending (Answer.Refused r) m = refused r.code r.position
-ending (Answer.Stopped x) m = run x.stop x.steps (lines_in x m)
+abbrev pub ending : Result Ran Refusal → Memory → Given
+ending (Err r) m = refused r.code r.position
+ending (Ok x) m = run (stop_number x.stop) x.steps (lines_in x m)
 
 unfoldable pub given : Question → Given
 given (start_of s) = let e : Ended Tag = execute s in ending e.answer e.memory

@@ -1,14 +1,14 @@
 -- Demand 1 for every engine, of what their contracts say (`plain`, `tagged`): a start is refused by the first of document 01's checks that
--- applies, with its number and place, and then all that was lent is as it came; every other start is run to one of the eleven stops
+-- applies, with its number and place, and then all that was lent is as it came; every other start is run to one of the twelve stops
 -- within its allowance. This file states it; proofs/Refusals.antt shows it.
-use Rattle.std.specs.Prelude.{ℕ, suc, ◌*◌, ◌^◌, ◌<◌, ◌≤◌, min, ◌≡◌, ◌≢◌, false, List, [], ◌∷◌, ℤ, pos, negsuc, length}
+use Rattle.std.specs.Prelude.{ℕ, suc, ◌*◌, ◌^◌, ◌<◌, ◌≤◌, min, ◌≡◌, ◌≢◌, false, List, [], ◌∷◌, ℤ, pos, negsuc, length, Err, Ok}
 use Rattle.program.specs.declared.Command.{Command}
 use Rattle.program.specs.declared.Refusal.{Refusal}
 use Rattle.program.specs.Decode.{refusal, decode}
 use Rattle.program.specs.Decode as Decode
+use Rattle.machine.specs.State.{stop_number}
 use Rattle.engine.specs.declared.Clearances.{Clearances}
 use Rattle.engine.specs.declared.Ran.{Ran}
-use Rattle.engine.specs.declared.Answer.TheVariants as Answer
 use Rattle.engine.specs.Memory.{Memory}
 use Rattle.engine.specs.Ended.{Ended, ended}
 use Rattle.plain.specs.Plain.{plain}
@@ -124,11 +124,11 @@ pub record Demand (checks refused : Check) (stopped : Type 0) : Type 0 where
 -- one of the twelve stops, within the allowance
 abbrev pub StoppedBy : {R : Type 0} → ℕ → Ended R → Type 0
 StoppedBy {R} fuel x =
-    (ran : Ran) × (u : R) × (after : Memory) × (x ≡ ended (Answer.Stopped ran) u after) × (ran.stop ≤ 11) × (ran.steps ≤ fuel)
+    (ran : Ran) × (u : R) × (after : Memory) × (x ≡ ended (Ok ran) u after) × (stop_number ran.stop ≤ 11) × (ran.steps ≤ fuel)
 
 abbrev pub TaggedDemand : List ℕ → Clearances → Memory → ℕ → List ℕ → (row handler : List ℤ) → Left → Type 0
 TaggedDemand sheet c m fuel bytes row handler x =
-    Demand (Checks sheet c m fuel (tagged_own bytes row handler)) (λ r. x ≡ left (ended (Answer.Refused r) (tag_of row) m) handler)
+    Demand (Checks sheet c m fuel (tagged_own bytes row handler)) (λ r. x ≡ left (ended (Err r) (tag_of row) m) handler)
     (StoppedBy fuel x.ended)
 
 -- for all arguments
@@ -136,7 +136,7 @@ abbrev pub PlainClaim : Type 0
 PlainClaim =
     (sheet : List ℕ) (c : Clearances) (m : Memory) (fuel : ℕ)
     → let x : Ended Unit = plain sheet c m fuel in
-    Demand (Checks sheet c m fuel none_own) (λ r. x ≡ ended (Answer.Refused r) tt m) (StoppedBy fuel x)
+    Demand (Checks sheet c m fuel none_own) (λ r. x ≡ ended (Err r) tt m) (StoppedBy fuel x)
 
 abbrev pub TaggedClaim : Type 0
 TaggedClaim =

@@ -1,5 +1,6 @@
 -- From an accepted start to the whole run: the lent words hold document 01's start, and what the loop leaves is the definition's.
 -- Assumes nothing.
+use Rattle.std.proofs.Common.{Err, None, Ok, Option, Result, Some}
 use mathlib.Core.Path.{◌≡◌, refl, ap, ap₂, ◌∙◌}
 use mathlib.Core.Bool.{Bool, true, false}
 use mathlib.Core.List.{List, [], ◌∷◌}
@@ -14,14 +15,11 @@ use Rattle.word.specs.Lay.{laid}
 use Rattle.word.specs.Wrap.{Signed}
 use Rattle.word.proofs.Bool.{never}
 use Rattle.label.specs.declared.Label.{Label}
-use Rattle.label.specs.declared.Stored.{Stored}
-use Rattle.label.specs.declared.Stored.TheVariants.{Of, Nothing}
 use Rattle.label.specs.Label.{InRange}
 use Rattle.label.specs.Word.{stored, stored_if}
 use Rattle.program.specs.declared.Command.{Command}
 use Rattle.program.specs.declared.Command.TheVariants.{Push, Bnz}
 use Rattle.program.specs.declared.Refusal.{Refusal}
-use Rattle.program.specs.declared.Checked.TheVariants as Checked
 use Rattle.program.specs.Decode.{Decoded, refused, accepted, decode, command_limit, check_answer}
 use Rattle.program.specs.Space.{program_words}
 use Rattle.program.specs.Encode.{AllWritable}
@@ -29,7 +27,8 @@ use Rattle.program.proofs.Decode.{decode-length}
 use Rattle.program.proofs.Encoding.{decode-writable}
 use Rattle.program.proofs.Words.{writable-at}
 use Rattle.machine.specs.Rule.{Ruler, rules}
-use Rattle.machine.specs.State.{State, Stop, stop_number}
+use Rattle.machine.specs.State.{State}
+use Rattle.machine.specs.declared.Stop.{Stop}
 use Rattle.machine.specs.Environment.{Environment}
 use Rattle.machine.specs.Run.{Same}
 use Rattle.machine.specs.Stopped.{CommandAt}
@@ -38,9 +37,6 @@ use Rattle.machine.proofs.Holds.{program-signed}
 use Rattle.stack.specs.Words.{started}
 use Rattle.step.specs.Lent.{Cells, cells, lent}
 use Rattle.engine.specs.declared.Clearances.{Clearances}
-use Rattle.engine.specs.declared.Answer.TheVariants as Answer
-use Rattle.engine.specs.declared.start.Limit.{Limit}
-use Rattle.engine.specs.declared.start.Limit.TheVariants.{Broken, Kept}
 use Rattle.engine.specs.declared.start.Own.{Own}
 use Rattle.engine.specs.Memory.{Memory, memory, surroundings}
 use Rattle.engine.specs.Layout.{stack_words, cell_words, paired, cells_of, lines_laid, stack_after}
@@ -58,40 +54,40 @@ use Rattle.engine.proofs.Whole.{loop-run}
 -- Limits that are kept
 -- ════════════════════════════════════════════════════════════════════════════════════════════
 
-both-kept : (a b : Limit) → or_else a b ≡ Kept → (a ≡ Kept) × (b ≡ Kept)
-both-kept (Broken r) b e = never (cc)
-both-kept Kept b e = (refl, e)
+both-kept : (a b : Result (Unit {0}) Refusal) → or_else a b ≡ Ok tt → (a ≡ Ok tt) × (b ≡ Ok tt)
+both-kept (Err r) b e = never (cc)
+both-kept (Ok tt) b e = (refl, e)
 
 -- each of a list
-abbrev AllKept : List Limit → Type 0
+abbrev AllKept : List (Result (Unit {0}) Refusal) → Type 0
 AllKept [] = Unit
-AllKept (l ∷ ls) = (l ≡ Kept) × AllKept ls
+AllKept (l ∷ ls) = (l ≡ Ok tt) × AllKept ls
 
-all-kept : (ls : List Limit) → first_of ls ≡ Kept → AllKept ls
+all-kept : (ls : List (Result (Unit {0}) Refusal)) → first_of ls ≡ Ok tt → AllKept ls
 all-kept [] e = tt
 all-kept (l ∷ ls) e = let (a, b) = both-kept l (first_of ls) e in (a, all-kept ls b)
 
-all_first : (ls : List Limit) → AllKept ls → first_of ls ≡ Kept
+all_first : (ls : List (Result (Unit {0}) Refusal)) → AllKept ls → first_of ls ≡ Ok tt
 all_first [] k = refl
 all_first (l ∷ ls) (e, k) = rw e (all_first ls k)
 
-pub test-kept : (b : Bool) (r : Refusal) → kept_if b r ≡ Kept → b ≡ true
+pub test-kept : (b : Bool) (r : Refusal) → kept_if b r ≡ Ok tt → b ≡ true
 test-kept true r e = refl
 test-kept false r e = never (cc)
 
 -- a stored label is a natural number in range
-stored-range : (z : ℤ) (x : Label) → stored z ≡ Of x → (n : ℕ) × (z ≡ pos n) × InRange n
+stored-range : (z : ℤ) (x : Label) → stored z ≡ Some x → (n : ℕ) × (z ≡ pos n) × InRange n
 unfolding stored
 stored-range (negsuc n) x e = never (cc)
 stored-range (pos n) x e = go (ltb n (2 ^ 32)) refl e
   where
-    go : (b : Bool) → ltb n (2 ^ 32) ≡ b → stored_if b n ≡ Of x → (k : ℕ) × (pos n ≡ pos k) × InRange k
+    go : (b : Bool) → ltb n (2 ^ 32) ≡ b → stored_if b n ≡ Some x → (k : ℕ) × (pos n ≡ pos k) × InRange k
     go true t e = (n, refl, ltb-true n (2 ^ 32) t)
     go false t e = never (cc)
 
-label_kept : (check : ℕ) (x : Stored) (i : ℕ) (rest : Limit) → or_label check x i rest ≡ Kept → (l : Label) × (x ≡ Of l) × (rest ≡ Kept)
-label_kept check (Of l) i rest e = (l, refl, e)
-label_kept check Nothing i rest e = never (cc)
+label_kept : (check : ℕ) (x : Option Label) (i : ℕ) (rest : Result (Unit {0}) Refusal) → or_label check x i rest ≡ Ok tt → (l : Label) × (x ≡ Some l) × (rest ≡ Ok tt)
+label_kept check (Some l) i rest e = (l, refl, e)
+label_kept check None i rest e = never (cc)
 
 -- ════════════════════════════════════════════════════════════════════════════════════════════
 -- The cells in the lent words
@@ -111,7 +107,7 @@ held_more v n fits rest =
       range = rw (low_label-id n fits) ((tt, fits), rest.range);
     }
 
-cells-held : (values labels : List ℤ) (i : ℕ) → length values ≡ length labels → labels_limit 5 i labels ≡ Kept → Held (cells values labels)
+cells-held : (values labels : List ℤ) (i : ℕ) → length values ≡ length labels → labels_limit 5 i labels ≡ Ok tt → Held (cells values labels)
 unfolding paired labels_limit
 cells-held [] [] i h e = record { words = refl; range = tt }
 cells-held [] (l ∷ labels) i h e = absurd (omega arith)
@@ -131,18 +127,18 @@ pub record Fine (sheet : List ℕ) (c : Clearances) (m : Memory) (fuel : ℕ) (o
   pub equal : length m.lent.cells.values ≡ length m.lent.cells.labels
   pub many : length m.lent.cells.values ≤ 1024
   pub cells : Held m.lent.cells
-  pub rules : own.rules ≡ Kept
-  pub row : own.row ≡ Kept
+  pub rules : own.rules ≡ Ok tt
+  pub row : own.row ≡ Ok tt
   pub program : 2 * length cs ≤ length m.program
   pub stack : 768 ≤ length m.lent.stack
-  pub handler : own.handler ≡ Kept
+  pub handler : own.handler ≡ Ok tt
   pub allowance : fuel ≤ 1000000
 
 module _ (sheet : List ℕ) (c : Clearances) (m : Memory) (fuel : ℕ) (own : Own) where
-  abbrev limits_of : List Command → Own → List Limit
+  abbrev limits_of : List Command → Own → List (Result (Unit {0}) Refusal)
   limits_of cs x = limits (length cs) m.lent.cells.labels c (given m fuel) x
 
-  limits-fine : (cs : List Command) → decode sheet ≡ accepted cs → first_of (limits_of cs own) ≡ Kept → Fine sheet c m fuel own cs
+  limits-fine : (cs : List Command) → decode sheet ≡ accepted cs → first_of (limits_of cs own) ≡ Ok tt → Fine sheet c m fuel own cs
   limits-fine cs d e =
       let (equal, a) = all-kept (limits_of cs own) e in
       let (few, b) = a in
@@ -175,9 +171,9 @@ module _ (sheet : List ℕ) (c : Clearances) (m : Memory) (fuel : ℕ) (own : Ow
   decoded-fine (refused r) g cs e = never (cc)
   decoded-fine (accepted ds) g cs e = go (first_of (limits_of ds own)) refl e
     where
-      go : (x : Limit) → first_of (limits_of ds own) ≡ x → within x ds ≡ accepted cs → Fine sheet c m fuel own cs
-      go (Broken r) f e = never (cc)
-      go Kept f e = let k : ds ≡ cs = cc in rw k at (limits-fine ds g f)
+      go : (x : Result (Unit {0}) Refusal) → first_of (limits_of ds own) ≡ x → within x ds ≡ accepted cs → Fine sheet c m fuel own cs
+      go (Err r) f e = never (cc)
+      go (Ok tt) f e = let k : ds ≡ cs = cc in rw k at (limits-fine ds g f)
 
   pub start_fine : (cs : List Command) → answer ≡ accepted cs → Fine sheet c m fuel own cs
   unfolding start_of
@@ -194,10 +190,10 @@ module _ (sheet : List ℕ) (c : Clearances) (m : Memory) (fuel : ℕ) (own : Ow
       by-sheet (refused r) e = e
       by-sheet (accepted ds) e = by-limits (first_of (limits_of ds own)) refl e
         where
-          by-limits : (x : Limit) → first_of (limits_of ds own) ≡ x → within x ds ≡ accepted cs
+          by-limits : (x : Result (Unit {0}) Refusal) → first_of (limits_of ds own) ≡ x → within x ds ≡ accepted cs
               → within (first_of (limits_of ds none_own)) ds ≡ accepted cs
-          by-limits (Broken r) f e = never (cc)
-          by-limits Kept f e =
+          by-limits (Err r) f e = never (cc)
+          by-limits (Ok tt) f e =
               let k = all-kept (limits_of ds own) f in
               let clear = k.1.1.1 in
               let spaces = clear.1.1.1.1 in
@@ -219,18 +215,18 @@ module _ (sheet : List ℕ) (c : Clearances) (m : Memory) (fuel : ℕ) (own : Ow
               )) e
 
   -- what is checked is refused, or has so many commands
-  pub refused-is : {R : Type 0} (ρ : Ruler R) (u : R) (r : Refusal) → Checked.Refused r ≡ check_answer answer
-      → ended (Answer.Refused r) u m ≡ engine_of ρ answer u c m fuel
+  pub refused-is : {R : Type 0} (ρ : Ruler R) (u : R) (r : Refusal) → Err r ≡ check_answer answer
+      → ended (Err r) u m ≡ engine_of ρ answer u c m fuel
   refused-is {R} ρ u r e = go answer e
     where
-      go : (d : Decoded) → Checked.Refused r ≡ check_answer d → ended (Answer.Refused r) u m ≡ engine_of ρ d u c m fuel
-      go (refused q) e = let k : r ≡ q = cc in ap (λ x. ended (Answer.Refused x) u m) k
+      go : (d : Decoded) → Err r ≡ check_answer d → ended (Err r) u m ≡ engine_of ρ d u c m fuel
+      go (refused q) e = let k : r ≡ q = cc in ap (λ x. ended (Err x) u m) k
       go (accepted cs) e = never (cc)
 
-  pub taken : (count : ℕ) → Checked.Accepted count ≡ check_answer answer → (cs : List Command) × (answer ≡ accepted cs) × (count ≡ length cs)
+  pub taken : (count : ℕ) → Ok count ≡ check_answer answer → (cs : List Command) × (answer ≡ accepted cs) × (count ≡ length cs)
   taken count e = go answer e
     where
-      go : (d : Decoded) → Checked.Accepted count ≡ check_answer d → (cs : List Command) × (d ≡ accepted cs) × (count ≡ length cs)
+      go : (d : Decoded) → Ok count ≡ check_answer d → (cs : List Command) × (d ≡ accepted cs) × (count ≡ length cs)
       go (refused q) e = never (cc)
       go (accepted cs) e = (cs, refl, cc)
 
@@ -280,14 +276,14 @@ module _ (sheet : List ℕ) (c : Clearances) (m : Memory) (fuel : ℕ) (own : Ow
     pub loop-whole : {R : Type 0} (ω : WordRuler R) (ρ : Ruler R) → Follows ω ρ → ((u : R) → Answers InRange (rules ρ u)) → (u : R)
         → (count : ℕ) → count ≡ length cs → (program : List ℤ) → program ≡ laid (program_words cs) m.program
         → (d : Done R) → d ≡ loop_of ω count env program fuel 0 started u m.lent m.output
-        → ended (Answer.Stopped d.ran) d.ruler (memory program d.lent d.output) ≡ stopped_at ρ cs u c m fuel
+        → ended (Ok d.ran) d.ruler (memory program d.lent d.output) ≡ stopped_at ρ cs u c m fuel
     loop-whole ω ρ follows answers u count n program p d g =
         let q =
         g ∙ ap₂ (λ n x. loop_of ω n env x fuel 0 started u m.lent m.output) n p
         ∙ loop-run ω ρ follows answers cs m.program env m.output signed fuel (begin m) started u m.lent
         m.output 0
         holds sound refl in
-        ap₂ (λ d x. ended (Answer.Stopped d.ran) d.ruler (memory x d.lent d.output)) q p
+        ap₂ (λ d x. ended (Ok d.ran) d.ruler (memory x d.lent d.output)) q p
 
 -- ════════════════════════════════════════════════════════════════════════════════════════════
 -- Two engines
@@ -302,7 +298,7 @@ pub same_end : {Q R : Type 0} (σ : Ruler Q) (ρ : Ruler R) (cs : List Command) 
 same_end σ ρ cs v u c m fuel h stack =
     record {
       answer =
-          ap₂ (λ (s : State) (x : Stop). Answer.Stopped (record { machine = machine_of s; stop = stop_number x; steps = s.steps }))
+          ap₂ (λ (s : State) (x : Stop). Ok (record { machine = machine_of s; stop = x; steps = s.steps }))
           h.state h.stop;
       memory =
           ap₂

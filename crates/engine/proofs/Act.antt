@@ -4,7 +4,6 @@
 use mathlib.Core.Path.{◌≡◌, refl}
 use mathlib.Core.List.{List}
 use Prim.Native.Nat.{ℕ}
-use native.Mathlib.Omega.{arith}
 use lib.IntN.{ℤ, pos, ◌+ℤ◌}
 use Rattle.word.specs.Wrap.{Signed, residue}
 use Rattle.program.specs.declared.Command.{Command}
@@ -13,18 +12,16 @@ use Rattle.program.specs.Command.{opcode, code_of, operand}
 use Rattle.program.proofs.Codes.{code-residue}
 use Rattle.machine.specs.Environment.{Environment}
 use Rattle.machine.specs.Rule.{Key, Verdict, denied, allowed, Ruler, rules}
-use Rattle.machine.specs.State.{State, denial}
+use Rattle.machine.specs.State.{State}
+use Rattle.machine.specs.declared.Stop.TheVariants.{Denial}
 use Rattle.machine.specs.Step.{Outcome, Request, halt, ask, request, key_of, decide, consult, execute}
 use Rattle.machine.specs.Run.{asked_by}
 use Rattle.machine.specs.Stopped.{CommandAt}
 use Rattle.machine.specs.Holds.{ProgramHas, WellMarked}
-use Rattle.machine.proofs.Stops.{stop-other}
 use Rattle.machine.proofs.Asked.{Asks, request-asks}
 use Rattle.stack.specs.declared.Machine.{Machine}
-use Rattle.stack.specs.Words.{carried_out}
-use Rattle.step.specs.declared.find.Inputs.{Inputs}
 use Rattle.step.specs.Lent.{Lent, After}
-use Rattle.step.specs.Find.{find_of}
+use Rattle.step.specs.Find.{Found, find_of}
 use Rattle.engine.specs.Memory as Memory
 use Rattle.engine.specs.Act.{WordRuler, Acted, ruled, ruling, act_found, act_of}
 use Rattle.engine.specs.Ended.{machine_of}
@@ -77,7 +74,7 @@ module _ {R : Type 0} (ω : WordRuler R) (ρ : Ruler R) (follows : Follows ω ρ
   m = machine_of s
 
   -- what comes of the words of a command
-  abbrev acts : Inputs → Acted R
+  abbrev acts : Found → Acted R
   acts i = act_found ω (pos (code_of (opcode c))) (operand c) m u l i
 
   -- a command on words simulates the machine's, and leaves of the ruler what that leaves
@@ -89,11 +86,11 @@ module _ {R : Type 0} (ω : WordRuler R) (ρ : Ruler R) (follows : Follows ω ρ
 
   verdict-simulates : (k : ℕ → ℕ → Outcome) → ((p r : ℕ) → Simulates env o₀ m l o (k p r) (ruled_by (allowed p r)))
       → (v : Verdict) → Simulates env o₀ m l o (decide v k) (ruled_by v)
-  verdict-simulates k f denied = stop-simulates env o₀ m l o denial
+  verdict-simulates k f denied = stop-simulates env o₀ m l o Denial
   verdict-simulates k f (allowed p r) = f p r
 
-  request-acts : (q : Request) → Asks c s q → (i : Inputs) → Looks c m l env o₀ o q i → Both q (acts i)
-  request-acts (halt x) a i e = rw (e, stop-other x carried_out (omega arith)) (stop-simulates env o₀ m l o x, refl)
+  request-acts : (q : Request) → Asks c s q → (i : Found) → Looks c m l env o₀ o q i → Both q (acts i)
+  request-acts (halt x) a i e = rw e (stop-simulates env o₀ m l o x, refl)
   request-acts (ask l1 l2 l3 k) (marked, roomy) i (e, f) =
       let same : ruling ω (pos (code_of (opcode c))) (operand c) m u l (finding l1 l2 l3) ≡ ρ u (key_of c s l1 l2 l3) =
       follows u (key_of c s l1 l2 l3) marked in

@@ -1,5 +1,6 @@
 -- Going round the loop on words: what is left to run, from where it stands, equals the whole run.
 -- Assumes nothing.
+use Rattle.std.proofs.Common.{Err, None, Ok, Result, Some}
 use mathlib.Core.Path.{◌≡◌, refl, sym, ap, ◌∙◌}
 use mathlib.Core.List.{List}
 use Prim.Native.Nat.{ℕ, suc, ◌+◌, ◌-◌, ◌<◌, ◌≤◌}
@@ -7,16 +8,16 @@ use native.Mathlib.Nat.{sub-zero}
 use native.Mathlib.Omega.{arith}
 use lib.IntN.{ℤ}
 use lib.ListN.{length}
-use borrow.Author.Tests.{eq-eqb, ne_eqb}
-use Rattle.word.specs.declared.number.Index.TheVariants.{At, Outside}
 use Rattle.word.specs.Number.{index_of}
+use Rattle.machine.specs.declared.Stop.{Stop}
+use Rattle.machine.specs.declared.Stop.TheVariants.{FuelSpent, PcOutside}
 use Rattle.machine.specs.Environment.{Environment}
 use Rattle.stack.specs.declared.Machine.{Machine}
-use Rattle.stack.specs.Words.{started, carried_out}
+use Rattle.stack.specs.Words.{started}
 use Rattle.step.specs.Lent.{Lent}
 use Rattle.engine.specs.declared.Went.{Went}
 use Rattle.engine.specs.Memory.{Output}
-use Rattle.engine.specs.Act.{WordRuler, Acted, act_of, emitted, emit_of, end_or}
+use Rattle.engine.specs.Act.{WordRuler, Acted, act_of, emitted, emit_of, closed, end_or}
 use Rattle.engine.specs.Loop.{Done, done, ran, halted, word_at, operand_at, onward, at_place, loop_of}
 
 -- ════════════════════════════════════════════════════════════════════════════════════════════
@@ -79,12 +80,12 @@ module _ {R : Type 0} (ω : WordRuler R) (count : ℕ) (env : Environment) (fuel
   -- the command leaves a, and with its line written w and o'
   module _ (word operand : ℤ) (m : Machine) (u : R) (l : Lent) (o : Output) (steps : ℕ) (g : Acting word operand m u l o steps)
       (a : Acted R) (d : a ≡ act_of ω word operand m u l)
-      (w : Went) (o' : Output) (f : emitted w o' ≡ emit_of env m a.after.stepped o) where
-    pub going-stopped : (w.stop ≡ carried_out → ⊥) → done (ran w.machine w.stop steps) a.ruler a.after.lent o' ≡ whole
-    going-stopped h = rw (← d, ← f, ne_eqb w.stop carried_out h) at g.left
+      (w : Result Machine Stop) (o' : Output) (f : emitted w o' ≡ emit_of env m a.after.stepped o) where
+    pub going-stopped : (stop : Stop) → w ≡ Err stop → done (ran m stop steps) a.ruler a.after.lent o' ≡ whole
+    going-stopped stop e = rw (← d, ← f, e) at g.left
 
-    pub going_on : w.stop ≡ carried_out → Going w.machine a.ruler a.after.lent o' (steps + 1)
-    going_on h = let k = g.below in record { few = omega arith; left = rw (← d, ← f, eq-eqb w.stop carried_out h) at g.left }
+    pub going_on : (on : Machine) → w ≡ Ok on → Going on a.ruler a.after.lent o' (steps + 1)
+    going_on on e = let k = g.below in record { few = omega arith; left = rw (← d, ← f, e) at g.left }
 
   module _ (m : Machine) (u : R) (l : Lent) (o : Output) (steps : ℕ) (g : Going m u l o steps) where
     -- where it ends, with the end line or without, as w and o'
@@ -92,7 +93,7 @@ module _ {R : Type 0} (ω : WordRuler R) (count : ℕ) (env : Environment) (fuel
       abbrev ending : Done R
       ending = done (ran w.machine w.stop steps) u l o'
 
-      pub going_end : emitted w o' ≡ end_or count env m 1 o → fuel ≤ steps → ending ≡ whole
+      pub going_end : closed w o' ≡ end_or count env m FuelSpent o → fuel ≤ steps → ending ≡ whole
       unfolding loop_of
       going_end e h =
           let z : fuel - steps ≡ 0 = omega arith in
@@ -107,10 +108,10 @@ module _ {R : Type 0} (ω : WordRuler R) (count : ℕ) (env : Environment) (fuel
           let z : fuel - steps ≡ suc (fuel - (steps + 1)) = omega arith in
           sym (ap (λ n. loop_of ω count env program n steps m u l o) z) ∙ g.left
 
-      pub going-outside : (w : Went) (o' : Output) → emitted w o' ≡ end_or count env m 2 o → index_of m.pc.0 count ≡ Outside
+      pub going-outside : (w : Went) (o' : Output) → closed w o' ≡ end_or count env m PcOutside o → index_of m.pc.0 count ≡ None
           → ending w o' ≡ whole
       going-outside w o' f e = ap (λ x. halted x u l steps) f ∙ (rw e at one)
 
       -- the command at the place
-      pub going-at : (i : ℕ) → index_of m.pc.0 count ≡ At i → Acting (word_at program i) (operand_at program i) m u l o steps
+      pub going-at : (i : ℕ) → index_of m.pc.0 count ≡ Some i → Acting (word_at program i) (operand_at program i) m u l o steps
       going-at i e = record { below = h; left = rw e at one }

@@ -1,5 +1,6 @@
 -- Every refusal has a number, which is not 0: so 0 in its place says that nothing was refused.
 -- Assumes nothing.
+use Rattle.std.proofs.Common.{Err, None, Ok, Option, Result, Some}
 use mathlib.Core.Path.{◌≡◌}
 use mathlib.Core.Bool.{Bool, true, false}
 use mathlib.Core.List.{List, [], ◌∷◌}
@@ -9,8 +10,6 @@ use lib.IntN.{ℤ}
 use lib.ListN.{length}
 use lib.Dec.{leb, eqb}
 use Rattle.word.proofs.Bool.{never}
-use Rattle.label.specs.declared.Stored.{Stored}
-use Rattle.label.specs.declared.Stored.TheVariants.{Of, Nothing}
 use Rattle.label.specs.Word.{stored}
 use Rattle.program.specs.declared.Operand.{Operand}
 use Rattle.program.specs.Command.{opcode_of, operand_of, opcode}
@@ -19,23 +18,21 @@ use Rattle.program.specs.Decode.{first_opcode, permits, check_of, decode_if, dec
 use Rattle.program.specs.declared.Command.{Command}
 use Rattle.program.specs.declared.Refusal.{Refusal}
 use Rattle.machine.specs.Rule.{Ruler}
-use Rattle.engine.specs.declared.Answer.TheVariants as Answer
 use Rattle.engine.specs.declared.Clearances.{Clearances}
-use Rattle.engine.specs.declared.start.Limit.{Limit}
-use Rattle.engine.specs.declared.start.Limit.TheVariants.{Broken, Kept}
 use Rattle.engine.specs.declared.start.Given.{Given}
 use Rattle.engine.specs.declared.start.Own.{Own}
 use Rattle.engine.specs.Memory.{Memory}
 use Rattle.engine.specs.Start.{kept_if, first_of, or_label, labels_limit, limits, within, start_decoded, start_of}
 use Rattle.engine.specs.Ended.{engine_of}
+use Rattle.label.specs.declared.Label.{Label}
 
 abbrev pub Numbered : Decoded → Type 0
 Numbered (refused r) = 1 ≤ r.code
 Numbered (accepted cs) = Unit {0}
 
-pub data LimitNumbered : Limit → Type 0 where
-  broken : {r : Refusal} → 1 ≤ r.code → LimitNumbered (Broken r)
-  kept : LimitNumbered Kept
+pub data LimitNumbered : Result (Unit {0}) Refusal → Type 0 where
+  broken : {r : Refusal} → 1 ≤ r.code → LimitNumbered (Err r)
+  kept : LimitNumbered (Ok tt)
 
 -- ════════════════════════════════════════════════════════════════════════════════════════════
 -- The sheet
@@ -76,24 +73,24 @@ kept-numbered true n p h = kept
 kept-numbered false n p h = broken h
 
 -- of a list
-data AllNumbered : List Limit → Type 0 where
+data AllNumbered : List (Result (Unit {0}) Refusal) → Type 0 where
   none : AllNumbered []
-  also : {l : Limit} {ls : List Limit} → LimitNumbered l → AllNumbered ls → AllNumbered (l ∷ ls)
+  also : {l : Result (Unit {0}) Refusal} {ls : List (Result (Unit {0}) Refusal)} → LimitNumbered l → AllNumbered ls → AllNumbered (l ∷ ls)
 
-first-of : (ls : List Limit) → AllNumbered ls → LimitNumbered (first_of ls)
+first-of : (ls : List (Result (Unit {0}) Refusal)) → AllNumbered ls → LimitNumbered (first_of ls)
 first-of [] none = kept
-first-of (Broken r ∷ ls) (also h more) = h
-first-of (Kept ∷ ls) (also h more) = first-of ls more
+first-of (Err r ∷ ls) (also h more) = h
+first-of (Ok tt ∷ ls) (also h more) = first-of ls more
 
 labels-numbered : (check i : ℕ) (labels : List ℤ) → 1 ≤ check → LimitNumbered (labels_limit check i labels)
 unfolding labels_limit
 labels-numbered check i [] h = kept
 labels-numbered check i (w ∷ labels) h = by (stored w) (labels-numbered check (suc i) labels h)
   where
-    by : (x : Stored) → LimitNumbered (labels_limit check (suc i) labels)
+    by : (x : Option Label) → LimitNumbered (labels_limit check (suc i) labels)
         → LimitNumbered (or_label check x i (labels_limit check (suc i) labels))
-    by (Of l) more = more
-    by Nothing more = broken {r = refusal check i} h
+    by (Some l) more = more
+    by None more = broken {r = refusal check i} h
 
 -- an engine's own
 pub record OwnNumbered (own : Own) : Type 0 where
@@ -121,9 +118,9 @@ module _ (labels : List ℤ) (c : Clearances) (g : Given) (own : Own) (numbered 
   unfolding start_of decode
   start-numbered sheet = by (decode sheet) (decode-numbered command_limit 0 sheet)
     where
-      limited : (l : Limit) (cs : List Command) → LimitNumbered l → Numbered (within l cs)
-      limited (Broken r) cs (broken h) = h
-      limited Kept cs h = tt
+      limited : (l : Result (Unit {0}) Refusal) (cs : List Command) → LimitNumbered l → Numbered (within l cs)
+      limited (Err r) cs (broken h) = h
+      limited (Ok tt) cs h = tt
 
       by : (d : Decoded) → Numbered d → Numbered (start_decoded d labels c g own)
       by (refused r) h = h
@@ -131,6 +128,6 @@ module _ (labels : List ℤ) (c : Clearances) (g : Given) (own : Own) (numbered 
 
 -- so has what an engine refuses
 pub answer-numbered : {R : Type 0} (ρ : Ruler R) (d : Decoded) (u : R) (c : Clearances) (m : Memory) (fuel : ℕ) → Numbered d
-    → (q : Refusal) → (engine_of ρ d u c m fuel).answer ≡ Answer.Refused q → 1 ≤ q.code
+    → (q : Refusal) → (engine_of ρ d u c m fuel).answer ≡ Err q → 1 ≤ q.code
 answer-numbered ρ (refused r) u c m fuel h q e = let same : r ≡ q = cc in rw same at h
 answer-numbered ρ (accepted cs) u c m fuel h q e = never (cc)

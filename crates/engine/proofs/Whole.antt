@@ -1,18 +1,17 @@
 -- The run on lent words is the machine's run: the loop over a loaded program, under a ruler that answers on words as another does in the
 -- machine, ends as the run under that one does, and leaves its words.
 -- Assumes nothing.
+use Rattle.std.proofs.Common.{None, Some, Option, slice_get}
 use mathlib.Core.Path.{◌≡◌, refl, sym, ap, ap₂, ◌∙◌}
 use mathlib.Core.Bool.{Bool, true, false}
 use mathlib.Core.List.{List, [], ◌∷◌}
-use mathlib.Core.Option.{Option, none, some}
 use Prim.Native.Nat.{ℕ, zero, suc, ◌+◌, ◌≤◌, ◌<◌}
 use native.Mathlib.Numerals.{add-one}
 use native.Mathlib.Omega.{arith}
 use lib.IntN.{ℤ, pos, negsuc}
-use lib.ListN.{length, length-append, get_elem?}
+use lib.ListN.{length, length-append}
 use lib.Dec.{ltb, eqb}
-use borrow.Author.Tests.{eq-eqb, ne_eqb, ltb-true, ltb-false}
-use Rattle.word.specs.declared.number.Index.TheVariants.{At, Outside}
+use borrow.Author.Tests.{ne_eqb, ltb-true, ltb-false}
 use Rattle.word.specs.Number.{natural_of, index_of}
 use Rattle.word.specs.Lay.{laid}
 use Rattle.word.specs.Wrap.{Signed}
@@ -25,23 +24,23 @@ use Rattle.program.proofs.Words.{code_at, operand_at, element-below}
 use Rattle.machine.specs.Environment.{Environment}
 use Rattle.machine.specs.Rule.{Ruler, rules}
 use Rattle.machine.specs.Atom.{end_line}
-use Rattle.machine.specs.State.{State, Stop, fuel_spent, pc_outside, stop_number}
+use Rattle.machine.specs.State.{State}
+use Rattle.machine.specs.declared.Stop.{Stop}
+use Rattle.machine.specs.declared.Stop.TheVariants.{FuelSpent, PcOutside}
 use Rattle.machine.specs.Step.{Outcome, stopped, stepped, execute}
 use Rattle.machine.specs.Run.{at_end, asked, Result, result, finish, end_barrier, run, along}
 use Rattle.machine.specs.Stopped.{CommandAt, NoCommandAt}
 use Rattle.machine.specs.Holds.{ProgramHas, Answers}
 use Rattle.machine.proofs.Barrier.{barrier-held, barred-none}
-use Rattle.machine.proofs.Stops.{stop-other}
 use Rattle.machine.proofs.Execute as Execute
 use Rattle.machine.proofs.Step.{gives-stepped, step-at, asked-at, step-none, asked-none}
 use Rattle.machine.proofs.Run.{run_end, run-spent, run-stopped, run-stepped, along-end, along-stopped, along-stepped}
 use Rattle.machine.proofs.Holds.{place-lt, step_range}
 use Rattle.stack.specs.declared.Machine.{Machine}
-use Rattle.stack.specs.Words.{carried_out}
 use Rattle.step.specs.Lent.{Lent, lent}
 use Rattle.engine.specs.Memory.{Output}
 use Rattle.engine.specs.Layout.{stack_words, cell_words, lines_laid, stack_laid, stack_after}
-use Rattle.engine.specs.Act.{WordRuler, Acted, act_of, went, Emitted, emitted, is_count, write_of, end_or}
+use Rattle.engine.specs.Act.{WordRuler, Acted, act_of, went, Closed, closed, ends_at, is_count, write_of, end_or}
 use Rattle.engine.specs.Loop.{Done, done, halted, onward, loop_of}
 use Rattle.engine.specs.Ended.{machine_of, summary}
 use Rattle.engine.proofs.Link.Stack.{stack_words-length}
@@ -56,11 +55,11 @@ use Rattle.engine.proofs.Act.{Follows, act-both}
 
 -- a command stands at the place, the place is the end, or neither
 data Place (cs : List Command) (z : ℤ) : Type 0 where
-  inside : (i : ℕ) (c : Command) → index_of z (length cs) ≡ At i → get_elem? cs i ≡ some c → CommandAt cs z c → Place cs z
-  at_the_end : index_of z (length cs) ≡ Outside → at_end (length cs) z ≡ true → Place cs z
-  beyond : index_of z (length cs) ≡ Outside → at_end (length cs) z ≡ false → NoCommandAt cs z → Place cs z
+  inside : (i : ℕ) (c : Command) → index_of z (length cs) ≡ Some i → slice_get cs i ≡ Some c → CommandAt cs z c → Place cs z
+  at_the_end : index_of z (length cs) ≡ None → at_end (length cs) z ≡ true → Place cs z
+  beyond : index_of z (length cs) ≡ None → at_end (length cs) z ≡ false → NoCommandAt cs z → Place cs z
 
-element-none : (cs : List Command) (i : ℕ) → length cs ≤ i → get_elem? cs i ≡ none
+element-none : (cs : List Command) (i : ℕ) → length cs ≤ i → slice_get cs i ≡ None
 element-none [] i h = refl
 element-none (c ∷ cs) zero h = absurd (omega arith)
 element-none (c ∷ cs) (suc i) h = element-none cs i (omega arith)
@@ -111,17 +110,17 @@ module _ {R : Type 0} (ω : WordRuler R) (ρ : Ruler R) (follows : Follows ω ρ
     abbrev m : Machine
     m = machine_of s
 
-    not_end : (other : ℕ) → at_end (length cs) s.pc.number ≡ false → end_or (length cs) env m other o ≡ emitted (went m other) o
+    not_end : (other : Stop) → at_end (length cs) s.pc.number ≡ false → end_or (length cs) env m other o ≡ closed (went m other) o
     unfolding end_or
     not_end other t = rw (end_is s.pc.number (length cs), t)
 
     -- where both stop, with v kept by the ruler
-    stops : (fuel : ℕ) (x : Stop) (v : R) {k : Emitted} → k ≡ emitted (went m (stop_number x)) o → run ρ env cs fuel s u ≡ result x s v
+    stops : (fuel : ℕ) (x : Stop) (v : R) {k : Closed} → k ≡ closed (went m x) o → run ρ env cs fuel s u ≡ result x s v
         → stack_after ρ env cs fuel s u l.stack ≡ l.stack → halted k v l n ≡ whole fuel s u l.stack
     stops fuel x v a b c = rw (a, b, c, ← e, ← r.cells, ← r.output)
 
     -- at the end, whose line goes out or is held back
-    ends : (fuel other : ℕ) → Sound env o₀ s l → at_end (length cs) s.pc.number ≡ true
+    ends : (fuel : ℕ) (other : Stop) → Sound env o₀ s l → at_end (length cs) s.pc.number ≡ true
         → halted (end_or (length cs) env m other o) u l n ≡ whole fuel s u l.stack
     unfolding end_or write_of
     ends fuel other h g = rw (end_is s.pc.number (length cs), g) (go (end_barrier env s) refl)
@@ -130,8 +129,8 @@ module _ {R : Type 0} (ω : WordRuler R) (ρ : Ruler R) (follows : Follows ω ρ
         same = along-end ρ env cs stack_laid s u l.stack fuel g
 
         go : (b : Option Stop) → end_barrier env s ≡ b
-            → halted (write_of env m (end_line s.pc.label) (went m 0) o) u l n ≡ whole fuel s u l.stack
-        go none f =
+            → (let e = write_of env m (end_line s.pc.label) m o in halted (closed (ends_at m e.went) e.output) u l n) ≡ whole fuel s u l.stack
+        go None f =
             let fits : length s.lines < env.room = (barred-none env _ _ (barrier-held env _ _ f)).1 in
             let line = line-at s.lines (end_line s.pc.label) o o₀ r.output (omega (arith, h.fits)) in
             rw (
@@ -145,16 +144,16 @@ module _ {R : Type 0} (ω : WordRuler R) (ρ : Ruler R) (follows : Follows ω ρ
               ← e,
               ← r.cells,
             )
-        go (some x) f = rw f (stops fuel x u refl (run_end ρ env cs fuel s u g ∙ ap (λ b. finish b s u) f) same)
+        go (Some x) f = rw f (stops fuel x u refl (run_end ρ env cs fuel s u g ∙ ap (λ b. finish b s u) f) same)
 
     ends-none : Sound env o₀ s l → looped 0 n m u l o ≡ whole 0 s u l.stack
     unfolding loop_of along
     ends-none h = go (at_end (length cs) s.pc.number) refl
       where
         go : (b : Bool) → at_end (length cs) s.pc.number ≡ b
-            → halted (end_or (length cs) env m 1 o) u l n ≡ whole 0 s u l.stack
-        go true g = ends 0 1 h g
-        go false g = stops 0 fuel_spent u (not_end 1 g) (run-spent ρ env cs s u g) refl
+            → halted (end_or (length cs) env m FuelSpent o) u l n ≡ whole 0 s u l.stack
+        go true g = ends 0 FuelSpent h g
+        go false g = stops 0 FuelSpent u (not_end FuelSpent g) (run-spent ρ env cs s u g) refl
 
     module _ (fuel : ℕ) (h : Sound env o₀ s l) (on : Ends fuel) where
       -- what is kept over a step
@@ -179,7 +178,7 @@ module _ {R : Type 0} (ω : WordRuler R) (ρ : Ruler R) (follows : Follows ω ρ
       ends-outcome c at (stopped x) d a left (w, same) =
           let g = going-at cs s.pc.number c at in
           let v = step-at env s cs c at (rules ρ u) ∙ d in
-          rw (w, stop-other x carried_out (omega arith), same)
+          rw (w, same)
           (stops (suc fuel) x a.ruler refl
           (run-stopped ρ env cs s u g fuel x v ∙ ap (result x s) left)
           (along-stopped ρ env cs stack_laid s u l.stack g fuel x v))
@@ -188,7 +187,7 @@ module _ {R : Type 0} (ω : WordRuler R) (ρ : Ruler R) (follows : Follows ω ρ
           let v = step-at env s cs c at (rules ρ u) ∙ d in
           let change : Execute.Change env s t = rw d at (Execute.execute-sound (rules ρ u) env c s) in
           let steps : t.steps ≡ n + 1 = let k = change.steps in omega arith in
-          rw (eq-eqb _ carried_out w)
+          rw w
           (on t _ a.ruler a.after.lent _ (n + 1) held (kept c at t d a.after.lent laying) steps
           ∙ ap₂ (ending o₀)
           (sym (run-stepped ρ env cs s u g fuel t v ∙ ap (run ρ env cs fuel t) left))
@@ -198,13 +197,13 @@ module _ {R : Type 0} (ω : WordRuler R) (ρ : Ruler R) (follows : Follows ω ρ
 
       ends_more : Place cs s.pc.number → looped (suc fuel) n m u l o ≡ whole (suc fuel) s u l.stack
       unfolding loop_of
-      ends_more (at_the_end i g) = rw i (ends (suc fuel) 2 h g)
+      ends_more (at_the_end i g) = rw i (ends (suc fuel) PcOutside h g)
       ends_more (beyond i g out) =
           let v = step-none env s cs out (rules ρ u) in
           rw i
-          (stops (suc fuel) pc_outside u (not_end 2 g)
-          (run-stopped ρ env cs s u g fuel pc_outside v ∙ ap (result pc_outside s) (asked-none env s cs out ρ u))
-          (along-stopped ρ env cs stack_laid s u l.stack g fuel pc_outside v))
+          (stops (suc fuel) PcOutside u (not_end PcOutside g)
+          (run-stopped ρ env cs s u g fuel PcOutside v ∙ ap (result PcOutside s) (asked-none env s cs out ρ u))
+          (along-stopped ρ env cs stack_laid s u l.stack g fuel PcOutside v))
       ends_more (inside i c x found at) =
           let both = act-both ω ρ follows env o₀ c s u l o r h cs has at in
           rw (x, code_at cs program₀ i c found, operand_at cs program₀ i c found)

@@ -1,21 +1,19 @@
 -- One command on lent words: what it finds, what a ruler says of it, what it does; then its line, and the end line.
-use Rattle.std.specs.Prelude.{ℕ, Bool, false, ℤ, pos, set, eqb}
-use Rattle.std.proofs.Math.Option.{Option, none, some}
+use Rattle.std.specs.Prelude.{ℕ, Bool, false, ℤ, pos, set, eqb, Err, None, Ok, Option, Result, Some}
 use Rattle.word.specs.Choose.{choose}
 use Rattle.word.specs.Wrap.{residue}
-use Rattle.word.specs.declared.number.Natural.{Natural}
-use Rattle.word.specs.declared.number.Natural.TheVariants.{Of, Negative}
 use Rattle.word.specs.Number.{natural_of}
 use Rattle.machine.specs.Atom.{Line, number_line, end_line}
-use Rattle.machine.specs.State.{Stop, stop_number}
+use Rattle.machine.specs.declared.Stop.{Stop}
+use Rattle.machine.specs.declared.Stop.TheVariants.{End, Denial}
 use Rattle.machine.specs.Environment.{Environment, barrier}
 use Rattle.machine.specs.Rule.{Verdict, denied, allowed, Ruling}
 use Rattle.stack.specs.declared.Machine.{Machine}
-use Rattle.stack.specs.declared.Stepped.{Stepped}
-use Rattle.stack.specs.Words.{printed, outcome, carried_out, prints}
+use Rattle.stack.specs.declared.Printed.{Printed}
+use Rattle.stack.specs.Words.{Stepping, printed}
 use Rattle.step.specs.declared.find.Inputs.{Inputs}
 use Rattle.step.specs.Lent.{Lent, After, after}
-use Rattle.step.specs.Find.{find_of}
+use Rattle.step.specs.Find.{Found, find_of}
 use Rattle.step.specs.Effect.{effect_of}
 use Rattle.engine.specs.declared.Went.{Went}
 use Rattle.engine.specs.Memory.{Output, output}
@@ -40,30 +38,25 @@ acted a u = record { after = a; ruler = u }
 
 module _ {R : Type 0} (ρ : WordRuler R) (word operand : ℤ) (m : Machine) (u : R) (l : Lent) where
   abbrev pub ruled : Verdict → After
-  ruled denied = after (outcome m 6) l
+  ruled denied = after (Err Denial) l
   ruled (allowed p r) = effect_of p r m (residue 64 word) operand l
 
   abbrev pub ruling : Inputs → Ruling R
   ruling i = ρ u (record { code = word; pc = m.label.0; inputs = i })
 
-  abbrev pub act_found : Inputs → Acted R
-  act_found i =
-      choose (eqb i.stop carried_out)
-      (acted (ruled (ruling i).verdict) (ruling i).ruler)
-      (acted (after (outcome m i.stop) l) u)
+  abbrev pub act_found : Found → Acted R
+  act_found (Ok i) = acted (ruled (ruling i).verdict) (ruling i).ruler
+  act_found (Err stop) = acted (after (Err stop) l) u
 
   unfoldable pub act_of : Acted R
   act_of = act_found (find_of (residue 64 word) operand m l)
 
--- where a run stands after a command, and the output space
-abbrev pub went : Machine → ℕ → Went
-went m stop = record { machine = m; stop = stop }
-
+-- where a run stands after a command, or its stop, and the output space
 pub record Emitted : Type 0 where
-  pub went : Went
+  pub went : Result Machine Stop
   pub output : Output
 
-abbrev pub emitted : Went → Output → Emitted
+abbrev pub emitted : Result Machine Stop → Output → Emitted
 emitted w o = record { went = w; output = o }
 
 -- the words of a line at an index
@@ -75,28 +68,44 @@ line_at i x o =
     (set o.kinds i (kind_word x.kind))
     (set o.pages i x.page)
 
--- a line that nothing holds back is written after those that are, and then the run stands at w; else it is stopped and nothing changes
-abbrev pub written_unless : Option Stop → Environment → Machine → Line → Went → Output → Emitted
-written_unless none env m x w o = emitted (went (printed w.machine env.room) w.stop) (line_at m.lines x o)
-written_unless (some stop) env m x w o = emitted (went m (stop_number stop)) o
+-- a line that nothing holds back is written after those that are, and then the run stands at `on`; else it is stopped and nothing changes
+abbrev pub written_unless : Option Stop → Environment → Machine → Line → Machine → Output → Emitted
+written_unless None env m x on o = emitted (Ok (printed on env.room)) (line_at m.lines x o)
+written_unless (Some stop) env m x on o = emitted (Err stop) o
 
-unfoldable pub write_of : Environment → Machine → Line → Went → Output → Emitted
-write_of env m x w o = written_unless (barrier env m.lines x) env m x w o
+unfoldable pub write_of : Environment → Machine → Line → Machine → Output → Emitted
+write_of env m x on o = written_unless (barrier env m.lines x) env m x on o
 
--- the line that a command hands back
-unfoldable pub emit_of : Environment → Machine → Stepped → Output → Emitted
-emit_of env m r o =
-    choose (eqb r.stop prints)
-    (write_of env m (number_line r.page r.number r.label.0) (went r.machine carried_out) o)
-    (emitted (went r.machine r.stop) o)
+-- the line that a command hands back, if it has one
+abbrev pub emit_line : Environment → Machine → Machine → Option Printed → Output → Emitted
+emit_line env m on None o = emitted (Ok on) o
+emit_line env m on (Some x) o = write_of env m (number_line x.page x.number x.label.0) on o
+
+unfoldable pub emit_of : Environment → Machine → Stepping → Output → Emitted
+emit_of env m (Ok r) o = emit_line env m r.machine r.line o
+emit_of env m (Err stop) o = emitted (Err stop) o
+
+-- where a run ends, and the output space
+abbrev pub went : Machine → Stop → Went
+went m stop = record { machine = m; stop = stop }
+
+pub record Closed : Type 0 where
+  pub went : Went
+  pub output : Output
+
+abbrev pub closed : Went → Output → Closed
+closed w o = record { went = w; output = o }
 
 -- at the end of the program the end line and stop 0, else another stop
-abbrev pub is_count : Natural → ℕ → Bool
-is_count (Of n) count = eqb n count
-is_count Negative count = false
+abbrev pub is_count : Option ℕ → ℕ → Bool
+is_count (Some n) count = eqb n count
+is_count None count = false
 
-unfoldable pub end_or : (count : ℕ) → Environment → Machine → (other : ℕ) → Output → Emitted
+abbrev pub ends_at : Machine → Result Machine Stop → Went
+ends_at m (Ok on) = went on End
+ends_at m (Err stop) = went m stop
+
+unfoldable pub end_or : (count : ℕ) → Environment → Machine → (other : Stop) → Output → Closed
 end_or count env m other o =
-    choose (is_count (natural_of m.pc.0) count)
-    (write_of env m (end_line m.label.0) (went m 0) o)
-    (emitted (went m other) o)
+    let e = write_of env m (end_line m.label.0) m o in
+    choose (is_count (natural_of m.pc.0) count) (closed (ends_at m e.went) e.output) (closed (went m other) o)

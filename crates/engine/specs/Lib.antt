@@ -1,4 +1,5 @@
 pub mod Memory
+pub mod Runs
 pub mod Layout
 pub mod Start
 pub mod Act

@@ -1,19 +1,17 @@
 -- The run on lent words, as the code of an engine goes round.
-use Rattle.std.specs.Prelude.{ℕ, zero, suc, ◌+◌, ◌*◌, List, ℤ, pos, get_or, eqb}
-use Rattle.word.specs.Choose.{choose}
-use Rattle.word.specs.declared.number.Index.{Index}
-use Rattle.word.specs.declared.number.Index.TheVariants.{At, Outside}
+use Rattle.std.specs.Prelude.{ℕ, zero, suc, ◌+◌, ◌*◌, List, ℤ, pos, get_or, Err, None, Ok, Option, Result, Some}
 use Rattle.word.specs.Number.{index_of}
+use Rattle.machine.specs.declared.Stop.{Stop}
+use Rattle.machine.specs.declared.Stop.TheVariants.{FuelSpent, PcOutside}
 use Rattle.machine.specs.Environment.{Environment}
 use Rattle.stack.specs.declared.Machine.{Machine}
-use Rattle.stack.specs.Words.{carried_out}
 use Rattle.step.specs.Lent.{Lent}
 use Rattle.engine.specs.declared.Ran.{Ran}
 use Rattle.engine.specs.Memory.{Output}
-use Rattle.engine.specs.Act.{WordRuler, Acted, act_of, Emitted, emit_of, end_or}
+use Rattle.engine.specs.Act.{WordRuler, Acted, act_of, emit_of, Closed, end_or}
 
 -- where a run ended
-abbrev pub ran : Machine → ℕ → ℕ → Ran
+abbrev pub ran : Machine → Stop → ℕ → Ran
 ran m stop steps = record { machine = m; stop = stop; steps = steps }
 
 pub record Done (R : Type 0) : Type 0 where
@@ -33,23 +31,24 @@ abbrev pub operand_at : List ℤ → ℕ → ℤ
 operand_at program i = get_or program (2 * i + 1) (pos 0)
 
 -- as the last line and the stop left it
-abbrev pub halted : {R : Type 0} → Emitted → R → Lent → ℕ → Done R
+abbrev pub halted : {R : Type 0} → Closed → R → Lent → ℕ → Done R
 halted e u l steps = done (ran e.went.machine e.went.stop steps) u l e.output
 
--- on, after a command that was carried out
-abbrev pub go_on : {R : Type 0} → Emitted → R → Lent → ℕ → (Machine → R → Lent → Output → Done R) → Done R
-go_on e u l steps go = choose (eqb e.went.stop carried_out) (go e.went.machine u l e.output) (halted e u l steps)
+-- on, after a command that was carried out; stopped, the run ends where it stood
+abbrev pub go_on : {R : Type 0} → Result Machine Stop → Machine → R → Lent → Output → ℕ → (Machine → R → Lent → Output → Done R) → Done R
+go_on (Ok on) m u l o steps go = go on u l o
+go_on (Err stop) m u l o steps go = done (ran m stop steps) u l o
 
 abbrev pub onward : {R : Type 0} → Environment → Acted R → Machine → Output → ℕ → (Machine → R → Lent → Output → Done R) → Done R
-onward env a m o steps go = go_on (emit_of env m a.after.stepped o) a.ruler a.after.lent steps go
+onward env a m o steps go = let e = emit_of env m a.after.stepped o in go_on e.went m a.ruler a.after.lent e.output steps go
 
 module _ {R : Type 0} (ρ : WordRuler R) (count : ℕ) (env : Environment) (program : List ℤ) where
-  abbrev pub at_place : Index → ℕ → Machine → R → Lent → Output → (Machine → R → Lent → Output → Done R) → Done R
-  at_place Outside steps m u l o go = halted (end_or count env m 2 o) u l steps
-  at_place (At i) steps m u l o go = onward env (act_of ρ (word_at program i) (operand_at program i) m u l) m o steps go
+  abbrev pub at_place : Option ℕ → ℕ → Machine → R → Lent → Output → (Machine → R → Lent → Output → Done R) → Done R
+  at_place None steps m u l o go = halted (end_or count env m PcOutside o) u l steps
+  at_place (Some i) steps m u l o go = onward env (act_of ρ (word_at program i) (operand_at program i) m u l) m o steps go
 
   -- `fuel` more steps, after `steps`
   unfoldable pub loop_of : ℕ → ℕ → Machine → R → Lent → Output → Done R
-  loop_of zero steps m u l o = halted (end_or count env m 1 o) u l steps
+  loop_of zero steps m u l o = halted (end_or count env m FuelSpent o) u l steps
   loop_of (suc fuel) steps m u l o =
       at_place (index_of m.pc.0 count) steps m u l o (λ m' u' l' o'. loop_of fuel (steps + 1) m' u' l' o')

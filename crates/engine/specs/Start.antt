@@ -1,39 +1,36 @@
 -- What is refused before the first step, in document 01's order.
-use Rattle.std.specs.Prelude.{ℕ, suc, ◌*◌, min, Bool, true, false, List, [], ◌∷◌, ℤ, length, leb, eqb}
-use Rattle.label.specs.declared.Stored.{Stored}
-use Rattle.label.specs.declared.Stored.TheVariants.{Of, Nothing}
+use Rattle.std.specs.Prelude.{ℕ, suc, ◌*◌, min, Bool, true, false, List, [], ◌∷◌, ℤ, length, leb, eqb, Err, None, Ok, Option, Result, Some}
 use Rattle.label.specs.Word.{stored}
 use Rattle.program.specs.declared.Command.{Command}
 use Rattle.program.specs.declared.Refusal.{Refusal}
 use Rattle.program.specs.Decode.{Decoded, refused, accepted, refusal, decode}
 use Rattle.engine.specs.declared.Clearances.{Clearances}
-use Rattle.engine.specs.declared.start.Limit.{Limit}
-use Rattle.engine.specs.declared.start.Limit.TheVariants.{Broken, Kept}
 use Rattle.engine.specs.declared.start.Given.{Given}
 use Rattle.engine.specs.declared.start.Own.{Own}
 use Rattle.engine.specs.Memory.{Memory}
+use Rattle.label.specs.declared.Label.{Label}
 
 -- a limit, kept where the test holds
-abbrev pub kept_if : Bool → Refusal → Limit
-kept_if true r = Kept
-kept_if false r = Broken r
+abbrev pub kept_if : Bool → Refusal → Result (Unit {0}) Refusal
+kept_if true r = Ok tt
+kept_if false r = Err r
 
 -- the first of two that is broken, and of a list
-abbrev pub or_else : Limit → Limit → Limit
-or_else (Broken r) other = Broken r
-or_else Kept other = other
+abbrev pub or_else : Result (Unit {0}) Refusal → Result (Unit {0}) Refusal → Result (Unit {0}) Refusal
+or_else (Err r) other = Err r
+or_else (Ok tt) other = other
 
-abbrev pub first_of : List Limit → Limit
-first_of [] = Kept
+abbrev pub first_of : List (Result (Unit {0}) Refusal) → Result (Unit {0}) Refusal
+first_of [] = Ok tt
 first_of (l ∷ ls) = or_else l (first_of ls)
 
 -- checks 5 and 13, by their number, from the cell or the page i on: a word outside 0 to 2^32 − 1, the first such
-abbrev pub or_label : (check : ℕ) → Stored → ℕ → Limit → Limit
-or_label check (Of l) i rest = rest
-or_label check Nothing i rest = Broken (refusal check i)
+abbrev pub or_label : (check : ℕ) → Option Label → ℕ → Result (Unit {0}) Refusal → Result (Unit {0}) Refusal
+or_label check (Some l) i rest = rest
+or_label check None i rest = Err (refusal check i)
 
-unfoldable pub labels_limit : (check : ℕ) → ℕ → List ℤ → Limit
-labels_limit check i [] = Kept
+unfoldable pub labels_limit : (check : ℕ) → ℕ → List ℤ → Result (Unit {0}) Refusal
+labels_limit check i [] = Ok tt
 labels_limit check i (w ∷ words) = or_label check (stored w) i (labels_limit check (suc i) words)
 
 -- the lengths and the allowance that were given, with the label words of the cells
@@ -48,10 +45,10 @@ given m fuel =
 
 -- an engine's own limits, of the rules, the rule memory and the handler space: the plain engine has none
 abbrev pub none_own : Own
-none_own = record { rules = Kept; row = Kept; handler = Kept }
+none_own = record { rules = Ok tt; row = Ok tt; handler = Ok tt }
 
 -- after the sheet's, of a sheet of so many commands
-abbrev pub limits : (count : ℕ) → List ℤ → Clearances → Given → Own → List Limit
+abbrev pub limits : (count : ℕ) → List ℤ → Clearances → Given → Own → List (Result (Unit {0}) Refusal)
 limits count labels c g own =
     -- 4: the runs of the cells differ in length (place: the shorter length), else over 1,024
     kept_if (eqb g.values (length labels)) (refusal 4 (min g.values (length labels)))
@@ -72,9 +69,9 @@ limits count labels c g own =
     ∷ kept_if (leb g.fuel 1000000) (refusal 9 0)
     ∷ []
 
-abbrev pub within : Limit → List Command → Decoded
-within (Broken r) cs = refused r
-within Kept cs = accepted cs
+abbrev pub within : Result (Unit {0}) Refusal → List Command → Decoded
+within (Err r) cs = refused r
+within (Ok tt) cs = accepted cs
 
 -- the sheet first, checks 1 to 3 and 12, then the rest
 abbrev pub start_decoded : Decoded → List ℤ → Clearances → Given → Own → Decoded

@@ -1,5 +1,6 @@
 -- From an engine's contract to that of the exported function over it.
 -- Assumes nothing.
+use Rattle.std.proofs.Common.{Err, Ok, Result}
 use mathlib.Core.Path.{◌≡◌, refl, sym, ap, ap₂, ◌∙◌}
 use mathlib.Core.List.{List}
 use Prim.Native.Nat.{ℕ}
@@ -15,7 +16,6 @@ use Rattle.handler.specs.Translate.{translate}
 use Rattle.handler.specs.Claim.{Handles}
 use Rattle.engine.specs.declared.Clearances.{Clearances}
 use Rattle.engine.specs.declared.Ran.{Ran}
-use Rattle.engine.specs.declared.Answer.{Answer}
 use Rattle.engine.specs.Memory.{Memory}
 use Rattle.engine.specs.Ended.{Ended, ended, directly, SameEnd}
 use Rattle.plain.specs.Plain.{plain}
@@ -27,10 +27,11 @@ use Rattle.exports.specs.Result.{result_of}
 use Rattle.exports.specs.Row.{given_row, left_row}
 use Rattle.exports.specs.Clearance.{given_clearances}
 use Rattle.exports.specs.Exported.{plain_left, exported_end, exported_plain, tagged_left, exported_tagged, uncounted, ExportedPromises}
+use Rattle.program.specs.declared.Refusal.{Refusal}
 
 module _ (sheet : List ℕ) (words : List ℤ) (c : Clearances) (is : c ≡ given_clearances words) (m : Memory) (fuel : ℕ) (r : LuvrodanResult)
     (after : Memory) where
-  pub plain-left : (a : Answer) → r ≡ result_of a 0 0 → ended a tt after ≡ plain sheet c m fuel
+  pub plain-left : (a : Result Ran Refusal) → r ≡ result_of a 0 0 → ended a tt after ≡ plain sheet c m fuel
       → plain_left r after ≡ exported_plain sheet words m fuel
   unfolding exported_plain
   plain-left a e d =
@@ -64,7 +65,7 @@ module _ (sheet bytes : List ℕ) (given words : List ℤ) (c : Clearances) (giv
   module _ (r : LuvrodanResult) (after : Memory) (a : Tagged) (space : List ℤ) where
     abbrev Stops : Table → List Instruction → Type 0
     Stops t code =
-        (ran : Ran) → a.answer ≡ Answer.Stopped ran
+        (ran : Ran) → a.answer ≡ Ok ran
         → (space ≡ laid (kernel_words code) handler) × SameEnd (ended_by a after) (directly (evaluate t) sheet c m fuel)
 
     abbrev Runs : Table → List Instruction → Type 0
@@ -80,17 +81,17 @@ module _ (sheet bytes : List ℕ) (given words : List ℤ) (c : Clearances) (giv
         handles-also Stops (λ t code. r.refusal ≡ 0 → Runs t code) (read_table bytes)
         (λ t p none. by a.answer refl t p (ap (λ (x : LuvrodanResult). x.refusal) (sym e) ∙ none)) h
       where
-        by : (x : Answer) → a.answer ≡ x → (t : Table) → Stops t (translate t)
+        by : (x : Result Ran Refusal) → a.answer ≡ x → (t : Table) → Stops t (translate t)
             → (result_of a.answer a.faults a.kernel).refusal ≡ 0 → Runs t (translate t)
-        by (Answer.Refused q) is t p none =
+        by (Err q) is t p none =
             let number = tagged-numbered sheet bytes given c m handler fuel q (ap (λ (x : Left). x.ended.answer) (sym d) ∙ is) in
             let zero : q.code ≡ 0 = rw is at none in
             absurd (omega arith)
-        by (Answer.Stopped ran) is t p none =
+        by (Ok ran) is t p none =
             let (lies, same) = p ran is in
-            let result : uncounted r ≡ result_of (Answer.Stopped ran) 0 0 =
-            ap uncounted e ∙ ap (λ (x : Answer). uncounted (result_of x a.faults a.kernel)) is in (
+            let result : uncounted r ≡ result_of (Ok ran) 0 0 =
+            ap uncounted e ∙ ap (λ (x : Result Ran Refusal). uncounted (result_of x a.faults a.kernel)) is in (
               lies,
-              ap₂ plain_left (result ∙ ap (λ (x : Answer). result_of x 0 0) (sym is ∙ same.answer)) same.memory
+              ap₂ plain_left (result ∙ ap (λ (x : Result Ran Refusal). result_of x 0 0) (sym is ∙ same.answer)) same.memory
                   ∙ ap (λ x. exported_end (directly (evaluate t) sheet x m fuel)) given_is,
             )

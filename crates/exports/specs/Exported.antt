@@ -13,7 +13,7 @@ use Rattle.tagged.specs.Tagged.{Left, tagged}
 use Rattle.exports.specs.declared.result.LuvrodanResult.{LuvrodanResult}
 use Rattle.report.specs.Page.{page_answer, page_out}
 use Rattle.exports.specs.declared.result.LuvrodanPageResult.{LuvrodanPageResult}
-use Rattle.assembly.specs.Assembly.{Result, answer, left}
+use Rattle.assembly.specs.Assembly.{Outcome, answer, left}
 use Rattle.exports.specs.declared.result.LuvrodanWritten.{LuvrodanWritten}
 use Rattle.exports.specs.Result.{result_of, page_result, written_result}
 use Rattle.exports.specs.Row.{given_row, left_row}
@@ -97,5 +97,5 @@ abbrev pub written_left : LuvrodanWritten → List ℕ → WrittenLeft
 written_left r bytes = record { result = r; bytes = bytes }
 
 -- of what is to be written, a sheet or a text, and the lent bytes
-unfoldable pub exported_written : Result → List ℕ → WrittenLeft
+unfoldable pub exported_written : Outcome → List ℕ → WrittenLeft
 exported_written x bytes = written_left (written_result (answer x bytes)) (left x bytes)

@@ -1,15 +1,14 @@
 -- The engines' answers as the ten words of `luvrodan_result`; the page's, and those of texts and listings.
-use Rattle.std.specs.Prelude.{ℕ, pos}
+use Rattle.std.specs.Prelude.{ℕ, pos, Err, None, Ok, Option, Result, Some}
 use Rattle.program.specs.declared.Refusal.{Refusal}
+use Rattle.machine.specs.declared.Stop.{Stop}
+use Rattle.machine.specs.State.{stop_number}
 use Rattle.stack.specs.declared.Machine.{Machine}
-use Rattle.engine.specs.declared.Answer.{Answer}
-use Rattle.report.specs.declared.Outcome.{Outcome}
-use Rattle.report.specs.declared.Outcome.TheVariants as Made
 use Rattle.report.specs.Page.{page_limit}
 use Rattle.exports.specs.declared.result.LuvrodanResult.{LuvrodanResult}
-use Rattle.assembly.specs.declared.Written.{Written}
 use Rattle.exports.specs.declared.result.LuvrodanPageResult.{LuvrodanPageResult}
 use Rattle.exports.specs.declared.result.LuvrodanWritten.{LuvrodanWritten}
+use Rattle.engine.specs.declared.Ran.{Ran}
 
 -- refused: the refusal's number and place, and zeros
 abbrev pub refused_result : Refusal → LuvrodanResult
@@ -28,12 +27,12 @@ refused_result r =
     }
 
 -- stopped: two zeros, and where the run ended
-abbrev pub stopped_result : Machine → (stop steps faults kernel : ℕ) → LuvrodanResult
+abbrev pub stopped_result : Machine → Stop → (steps faults kernel : ℕ) → LuvrodanResult
 stopped_result m stop steps faults kernel =
     record {
       refusal = 0;
       position = 0;
-      stop = stop;
+      stop = stop_number stop;
       steps = steps;
       pc = m.pc.0;
       label = m.label.0;
@@ -44,16 +43,16 @@ stopped_result m stop steps faults kernel =
     }
 
 -- an engine's answer, with the faults and the kernel steps of its run
-abbrev pub result_of : Answer → (faults kernel : ℕ) → LuvrodanResult
-result_of (Answer.Refused r) faults kernel = refused_result r
-result_of (Answer.Stopped x) faults kernel = stopped_result x.machine x.stop x.steps faults kernel
+abbrev pub result_of : Result Ran Refusal → (faults kernel : ℕ) → LuvrodanResult
+result_of (Err r) faults kernel = refused_result r
+result_of (Ok x) faults kernel = stopped_result x.machine x.stop x.steps faults kernel
 
 -- a page and its length; or a buffer that is too short, and how long it has to be
-abbrev pub page_result : Outcome → LuvrodanPageResult
-page_result (Made.Written n) = record { status = 0; length = n }
-page_result Made.Short = record { status = 1; length = page_limit }
+abbrev pub page_result : Option ℕ → LuvrodanPageResult
+page_result (Some n) = record { status = 0; length = n }
+page_result None = record { status = 1; length = page_limit }
 
 -- the length of what was written; or the refusal's number and place, and 0
-abbrev pub written_result : Written → LuvrodanWritten
-written_result (Written.Length n) = record { refusal = 0; position = 0; length = n }
-written_result (Written.Refused r) = record { refusal = r.code; position = r.position; length = 0 }
+abbrev pub written_result : Result ℕ Refusal → LuvrodanWritten
+written_result (Ok n) = record { refusal = 0; position = 0; length = n }
+written_result (Err r) = record { refusal = r.code; position = r.position; length = 0 }

@@ -3,20 +3,14 @@ ghost use Rattle.std.specs.Prelude.{◌≡◌};
 ghost use Rattle.exports.specs.Clearance.{given_clearances};
 
 use engine::Clearances;
-use word::memory::at;
 
 // Sixteen words are the clearances; of another number only that number is kept, which check 13 refuses.
+#[tactic(auto, unfolding(crate::specs::Clearance::given_clearances))]
 pub(crate) fn given(lent: &[i64]) -> Clearances
     ensures { result ≡ given_clearances lent.now }
 {
-    let count = lent.len();
-    let mut words: [i64; 16] = [0; 16];
-    if count == 16 {
-        let mut i: usize = 0;
-        while i < 16 {
-            words[i] = at(lent, i);
-            i += 1;
-        }
+    Clearances {
+        words: <[i64; 16]>::try_from(lent).unwrap_or([0; 16]),
+        count: lent.len(),
     }
-    Clearances { words, count }
 }

@@ -1,5 +1,5 @@
-// The functions of include/luvrodan.h over the proved engines, which `exports_c` hands to C and Rust under their names. Read specs/Exported.antt
-// first.
+// The functions of include/luvrodan.h over the proved engines, which `exports_c` hands to C and Rust under their names: so their parameters
+// are the header's, each run of words for itself. Read specs/Exported.antt first.
 #![tactic(auto)]
 
 mod clearance;
@@ -90,14 +90,13 @@ pub fn luvrodan_tagged(
         (output numbers.new line_labels.new kinds.new pages.new))
         handler.new) }
 {
-    let cache = row::given(rule_memory);
     let tagged = tagged::execute(
         sheet,
         values,
         labels,
         clearance::given(clearances),
         table,
-        cache,
+        row::given(rule_memory),
         program,
         stack,
         handler,
@@ -108,8 +107,7 @@ pub fn luvrodan_tagged(
         fuel,
     );
     row::leave(rule_memory, tagged.cache);
-    let answer = tagged.answer;
-    result::of_answer(answer, tagged.faults, tagged.kernel)
+    result::of_answer(tagged.answer, tagged.faults, tagged.kernel)
 }
 
 // How many kernel commands the handler of a table has; 0 where the bytes are no table.
@@ -121,25 +119,25 @@ pub fn luvrodan_handler_count(table: &[u8]) -> u64
 }
 
 // The page of a job: what the program `page` prints for these bytes.
+#[tactic(auto, unfolding(crate::specs::Exported::exported_page))]
 pub fn luvrodan_page(job: &[u8], page: &mut [u8]) -> LuvrodanPageResult
     ensures { page_left result page.new ≡ exported_page job.now page.old }
 {
-    let made = report::page(job, page);
-    result::of_page(made)
+    report::page(job, page).into()
 }
 
 // Reads a text into a sheet.
+#[tactic(auto, unfolding(crate::specs::Exported::exported_written))]
 pub fn luvrodan_assemble(text: &[u8], sheet: &mut [u8]) -> LuvrodanWritten
     ensures { written_left result sheet.new ≡ exported_written (assembled text.now) sheet.old }
 {
-    let written = assembly::assemble(text, sheet);
-    result::of_written(written)
+    assembly::assemble(text, sheet).into()
 }
 
 // Lists a sheet as a text.
+#[tactic(auto, unfolding(crate::specs::Exported::exported_written))]
 pub fn luvrodan_list(sheet: &[u8], text: &mut [u8]) -> LuvrodanWritten
     ensures { written_left result text.new ≡ exported_written (listed sheet.now) text.old }
 {
-    let written = assembly::list(sheet, text);
-    result::of_written(written)
+    assembly::list(sheet, text).into()
 }

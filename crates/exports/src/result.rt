@@ -1,16 +1,13 @@
-// The engines' answers as ten words, the page's as two, and those of texts and listings as three.
+// The engines' answers as ten words, the page's as two, and those of texts and listings as three. The structs are the C interface's.
 ghost use Rattle.std.specs.Prelude.{◌≡◌};
 ghost use Rattle.exports.specs.Result.{refused_result, stopped_result, result_of, page_result, written_result};
 
-use assembly::Written;
-use engine::Answer;
+use engine::Ran;
 use program::Refusal;
-use report::Outcome;
-use stack::Machine;
 
 // What a run came to: `luvrodan_result` of include/luvrodan.h, field by field in its order.
 #[repr(C)]
-#[derive(Drop)]
+#[derive(Clone, Copy, PartialEq, Eq, Debug)]
 pub struct LuvrodanResult {
     pub refusal: u64,
     pub position: u64,
@@ -26,7 +23,7 @@ pub struct LuvrodanResult {
 
 // What a page came to: `luvrodan_page_result`.
 #[repr(C)]
-#[derive(Drop)]
+#[derive(Clone, Copy, PartialEq, Eq, Debug)]
 pub struct LuvrodanPageResult {
     pub status: u64,
     pub length: u64,
@@ -34,11 +31,21 @@ pub struct LuvrodanPageResult {
 
 // What a text or a listing came to: `luvrodan_written`.
 #[repr(C)]
-#[derive(Drop)]
+#[derive(Clone, Copy, PartialEq, Eq, Debug)]
 pub struct LuvrodanWritten {
     pub refusal: u64,
     pub position: u64,
     pub length: u64,
+}
+
+// An engine's answer, with the faults and the kernel steps of its run.
+pub(crate) fn of_answer(answer: Result<Ran, Refusal>, faults: u64, kernel: u64) -> LuvrodanResult
+    ensures { result ≡ result_of answer faults kernel }
+{
+    match answer {
+        Err(r) => refused(r),
+        Ok(ran) => stopped(ran, faults, kernel),
+    }
 }
 
 fn refused(r: Refusal) -> LuvrodanResult
@@ -58,14 +65,15 @@ fn refused(r: Refusal) -> LuvrodanResult
     }
 }
 
-fn stopped(m: Machine, stop: u64, steps: u64, faults: u64, kernel: u64) -> LuvrodanResult
-    ensures { result ≡ stopped_result m stop steps faults kernel }
+fn stopped(ran: Ran, faults: u64, kernel: u64) -> LuvrodanResult
+    ensures { result ≡ stopped_result ran.machine ran.stop ran.steps faults kernel }
 {
+    let m = ran.machine;
     LuvrodanResult {
         refusal: 0,
         position: 0,
-        stop,
-        steps,
+        stop: ran.stop.number(),
+        steps: ran.steps,
         pc: m.pc.0,
         label: m.label.0 as u64,
         depth: m.depth as u64,
@@ -75,44 +83,38 @@ fn stopped(m: Machine, stop: u64, steps: u64, faults: u64, kernel: u64) -> Luvro
     }
 }
 
-// An engine's answer, with the faults and the kernel steps of its run.
-pub(crate) fn of_answer(answer: Answer, faults: u64, kernel: u64) -> LuvrodanResult
-    ensures { result ≡ result_of answer faults kernel }
-{
-    match answer {
-        Answer::Refused(r) => refused(r),
-        Answer::Stopped(ran) => stopped(ran.machine, ran.stop, ran.steps, faults, kernel),
+impl From<Option<usize>> for LuvrodanPageResult {
+    ghost from_gives = { λ made result. result ≡ page_result made };
+
+    fn from(made: Option<usize>) -> LuvrodanPageResult {
+        match made {
+            Some(length) => LuvrodanPageResult {
+                status: 0,
+                length: length as u64,
+            },
+            None => LuvrodanPageResult {
+                status: 1,
+                length: report::PAGE_LIMIT as u64,
+            },
+        }
     }
 }
 
-pub(crate) fn of_page(made: Outcome) -> LuvrodanPageResult
-    ensures { result ≡ page_result made }
-{
-    match made {
-        Outcome::Written(length) => LuvrodanPageResult {
-            status: 0,
-            length: length as u64,
-        },
-        Outcome::Short => LuvrodanPageResult {
-            status: 1,
-            length: report::PAGE_LIMIT as u64,
-        },
-    }
-}
+impl From<Result<usize, Refusal>> for LuvrodanWritten {
+    ghost from_gives = { λ written result. result ≡ written_result written };
 
-pub(crate) fn of_written(written: Written) -> LuvrodanWritten
-    ensures { result ≡ written_result written }
-{
-    match written {
-        Written::Length(length) => LuvrodanWritten {
-            refusal: 0,
-            position: 0,
-            length: length as u64,
-        },
-        Written::Refused(refusal) => LuvrodanWritten {
-            refusal: refusal.code,
-            position: refusal.position as u64,
-            length: 0,
-        },
+    fn from(written: Result<usize, Refusal>) -> LuvrodanWritten {
+        match written {
+            Ok(length) => LuvrodanWritten {
+                refusal: 0,
+                position: 0,
+                length: length as u64,
+            },
+            Err(r) => LuvrodanWritten {
+                refusal: r.code,
+                position: r.position as u64,
+                length: 0,
+            },
+        }
     }
 }

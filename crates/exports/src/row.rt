@@ -3,33 +3,23 @@ ghost use Rattle.std.specs.Prelude.{◌≡◌};
 ghost use Rattle.exports.specs.Row.{given_row, left_row};
 
 use policy::row::Cache;
-use word::memory::{at, put};
 
 // Seven words are the rule memory; instead of any other number of them stands a row that check 7 refuses.
+#[tactic(auto, unfolding(crate::specs::Row::given_row))]
 pub(crate) fn given(lent: &[i64]) -> Cache
     ensures { result.words ≡ given_row lent.now }
 {
-    if lent.len() != 7 {
-        return Cache::empty().set(0, -1);
+    Cache {
+        words: <[i64; 7]>::try_from(lent).unwrap_or([-1, 0, 0, 0, 0, 0, 0]),
     }
-    let mut cache = Cache::empty();
-    let mut i: usize = 0;
-    while i < 7 {
-        cache = cache.set(i, at(lent, i));
-        i += 1;
-    }
-    cache
 }
 
 // The rule memory is written where there are seven words.
+#[tactic(auto, unfolding(crate::specs::Row::left_row))]
 pub(crate) fn leave(lent: &mut [i64], cache: Cache)
     ensures { lent.new ≡ left_row cache.words lent.old }
 {
     if lent.len() == 7 {
-        let mut i: usize = 0;
-        while i < 7 {
-            put(lent, i, cache.get(i));
-            i += 1;
-        }
+        lent.copy_from_slice(&cache.words);
     }
 }

@@ -1,5 +1,6 @@
 -- Translated expressions: run before any rest they leave their value, and nothing else, on the stack.
 -- Assumes nothing.
+use Rattle.std.proofs.Common.{Some}
 use mathlib.Core.Path.{◌≡◌, refl, ap, ◌∙◌}
 use mathlib.Core.Bool.{◌||◌}
 use mathlib.Core.List.{List, ◌∷◌, ◌++◌, append_assoc}
@@ -7,7 +8,6 @@ use Prim.Native.Nat.{ℕ, zero, suc, ◌+◌, ◌-◌, ◌≤◌}
 use native.Mathlib.Omega.{arith}
 use lib.IntN.{ℤ, pos}
 use lib.ListN.{length}
-use mathlib.Core.Option.{some}
 use lib.Dec.{eqb, eqb-suc-zero}
 use Rattle.label.specs.Label as Label
 use Rattle.label.specs.Label.{InRange}
@@ -95,13 +95,13 @@ module _ (n m : ℕ) (k : Key) (reads : Reads m k) where
     label-run empty rest s h d = exec-push n rest s (key_row k p r) (pos 0) (omega arith)
     label-run place rest s h d = exec-read n rest s (key_row k p r) 1 (pos k.pc) refl (omega arith)
     label-run input1 rest s h d =
-        exec-read n rest s (key_row k p r) 2 (pos (label_of k.input1)) (ap some (readable-word k.input1 (reads.input1 h)))
+        exec-read n rest s (key_row k p r) 2 (pos (label_of k.input1)) (ap Some (readable-word k.input1 (reads.input1 h)))
         (omega arith)
     label-run input2 rest s h d =
-        exec-read n rest s (key_row k p r) 3 (pos (label_of k.input2)) (ap some (readable-word k.input2 (reads.input2 h)))
+        exec-read n rest s (key_row k p r) 3 (pos (label_of k.input2)) (ap Some (readable-word k.input2 (reads.input2 h)))
         (omega arith)
     label-run input3 rest s h d =
-        exec-read n rest s (key_row k p r) 4 (pos (label_of k.input3)) (ap some (readable-word k.input3 (reads.input3 h)))
+        exec-read n rest s (key_row k p r) 4 (pos (label_of k.input3)) (ap Some (readable-word k.input3 (reads.input3 h)))
         (omega arith)
     label-run (join a b) rest s h d =
         simp append_assoc

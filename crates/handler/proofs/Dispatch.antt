@@ -1,13 +1,13 @@
 -- A translated rule ends the handler as the rule says, and the dispatch chooses the rule that the command with the code is under.
 -- Assumes nothing.
+use Rattle.std.proofs.Common.{Some, slice_get}
 use mathlib.Core.Path.{◌≡◌, refl, sym, ap, ◌∙◌}
 use mathlib.Core.Bool.{Bool, true, false}
 use mathlib.Core.List.{List, [], ◌∷◌, ◌++◌, append_assoc, map}
-use mathlib.Core.Option.{some}
 use Prim.Native.Nat.{ℕ, zero, suc, ◌+◌, ◌-◌, ◌≤◌}
 use native.Mathlib.Omega.{arith}
 use lib.IntN.{ℤ, pos, negsuc}
-use lib.ListN.{length, get_elem?, take, drop, length-append}
+use lib.ListN.{length, take, drop, length-append}
 use lib.Dec.{eqb, eqb-suc-zero}
 use Rattle.word.specs.Wrap.{add_wrap}
 use Rattle.program.specs.Command.{Opcode, opcodes, code_of, supplies, has_result, rule_number}
@@ -79,7 +79,7 @@ result-writable true m e h = h
 result-writable false m e h = rw h (omega arith, tt)
 
 pub rule-run : (n : ℕ) (o : Opcode) (k : Key) (a : Rule) (rest : List Instruction) → Reads (supplies o) k → RuleWritable o a
-    → exec n (compile_rule a ++ rest) 0 [] (fault_row k) ≡ ending_for k (eval_rule (some a) k)
+    → exec n (compile_rule a ++ rest) 0 [] (fault_row k) ≡ ending_for k (eval_rule (Some a) k)
 unfolding compile_rule
 rule-run n o k a rest reads w =
     if-run n (supplies o) k reads (eval_label k a.pc) (eval_label k a.result) (compile_answer a)
@@ -95,7 +95,7 @@ slots_length bodies [] = refl
 slots_length bodies (o ∷ os) = ap suc (slots_length bodies os)
 
 -- a body, behind those before it
-concat-at : (bodies : List (List Instruction)) (n : ℕ) (b : List Instruction) → get_elem? bodies n ≡ some b
+concat-at : (bodies : List (List Instruction)) (n : ℕ) (b : List Instruction) → slice_get bodies n ≡ Some b
     → concat bodies ≡ concat (take n bodies) ++ (b ++ concat (drop (suc n) bodies))
 concat-at [] n b e = let z : ◌≡◌ {A = ℕ} 0 1 = cc in absurd (omega arith)
 concat-at (a ∷ bodies) zero b e = let same : a ≡ b = cc in rw same
@@ -103,8 +103,8 @@ concat-at (a ∷ bodies) (suc n) b e = rw (concat-at bodies n b e) (sym (append_
 
 -- a command's slot comes to the body of its rule; c is any number but 0
 module _ (n c : ℕ) (s w : List ℤ) (x : Ending) (bodies : List (List Instruction)) (o : Opcode) (b : List Instruction)
-    (body : get_elem? bodies (rule_number o) ≡ some b) (runs : (rest : List Instruction) → exec n (b ++ rest) 0 s w ≡ x) where
-  slots-run : (os : List Opcode) (i : ℕ) → get_elem? os i ≡ some o → exec n (slots bodies os ++ concat bodies) i (pos (suc c) ∷ s) w ≡ x
+    (body : slice_get bodies (rule_number o) ≡ Some b) (runs : (rest : List Instruction) → exec n (b ++ rest) 0 s w ≡ x) where
+  slots-run : (os : List Opcode) (i : ℕ) → slice_get os i ≡ Some o → exec n (slots bodies os ++ concat bodies) i (pos (suc c) ∷ s) w ≡ x
   slots-run [] i e = let z : ◌≡◌ {A = ℕ} 0 1 = cc in absurd (omega arith)
   slots-run (p ∷ os) zero e =
       let same : p ≡ o = cc in
@@ -117,14 +117,14 @@ module _ (n c : ℕ) (s w : List ℤ) (x : Ending) (bodies : List (List Instruct
       (exec-over n (slots bodies os ++ front) behind s w ∙ runs _))
   slots-run (p ∷ os) (suc i) e = exec-pass n _ _ i _ w ∙ slots-run os i e
 
-element-map : (t : Table) (i : ℕ) (a : Rule) → get_elem? t i ≡ some a → get_elem? (map compile_rule t) i ≡ some (compile_rule a)
+element-map : (t : Table) (i : ℕ) (a : Rule) → slice_get t i ≡ Some a → slice_get (map compile_rule t) i ≡ Some (compile_rule a)
 element-map [] i a e = let z : ◌≡◌ {A = ℕ} 0 1 = cc in absurd (omega arith)
 element-map (b ∷ t) zero a e = cc
 element-map (b ∷ t) (suc i) a e = element-map t i a e
 
 -- from the start of the handler of t with a command's code in the row's first word to the body of the rule that the command is under
-pub dispatch-run : (t : Table) (o : Opcode) (w : List ℤ) (x : Ending) (a : Rule) → get_elem? w 0 ≡ some (pos (code_of o))
-    → rule_of t o ≡ some a → ((rest : List Instruction) → exec (length (translate t)) (compile_rule a ++ rest) 0 [] w ≡ x)
+pub dispatch-run : (t : Table) (o : Opcode) (w : List ℤ) (x : Ending) (a : Rule) → slice_get w 0 ≡ Some (pos (code_of o))
+    → rule_of t o ≡ Some a → ((rest : List Instruction) → exec (length (translate t)) (compile_rule a ++ rest) 0 [] w ≡ x)
     → exec (length (translate t)) (translate t) 0 [] w ≡ x
 dispatch-run t o w x a code rule h =
     let i = code_of o - 1 in
@@ -137,7 +137,7 @@ dispatch-run t o w x a code rule h =
     let same : translate t ≡ read 0 ++ (Dup ∷ Push (pos 5) ∷ Add ∷ Jump ∷ rest) = unfold translate in refl in
     let l : n ≡ suc 5 + length rest = unfold translate in omega arith in
     ap (λ (c : List Instruction). exec n c 0 [] w) same
-    ∙ exec-read n (Dup ∷ Push (pos 5) ∷ Add ∷ Jump ∷ rest) [] w 0 (pos (suc i)) (code ∙ ap (λ m. some (pos m)) c) (omega arith)
+    ∙ exec-read n (Dup ∷ Push (pos 5) ∷ Add ∷ Jump ∷ rest) [] w 0 (pos (suc i)) (code ∙ ap (λ m. Some (pos m)) c) (omega arith)
     ∙ exec-dup n _ [] w _ (omega arith)
     ∙ exec-push n _ _ w (pos 5) (omega arith)
     ∙ exec-add n _ _ w (pos 5) (pos (suc i))

@@ -1,14 +1,14 @@
 -- What every instruction keeps, and every run of every handler on any row: it goes forward, stays within the stack's limit, leaves the
 -- row as long as it was, and takes no more steps than it was given.
 -- Assumes nothing.
+use Rattle.std.proofs.Common.{None, Option, Some, slice_get}
 use mathlib.Core.Path.{◌≡◌, refl, ap, ◌∙◌}
 use mathlib.Core.Bool.{Bool, true, false}
 use mathlib.Core.List.{List, [], ◌∷◌}
-use mathlib.Core.Option.{Option, none, some}
 use Prim.Native.Nat.{ℕ, zero, suc, ◌+◌, ◌<◌, ◌≤◌}
 use native.Mathlib.Omega.{arith}
 use lib.IntN.{ℤ, pos, negsuc}
-use lib.ListN.{length, get_elem?, length-set}
+use lib.ListN.{length, length-set}
 use lib.Dec.{ltb}
 use borrow.Author.Tests.{ltb-true}
 use Rattle.machine.specs.Step.{branch}
@@ -39,11 +39,11 @@ module _ (place : ℕ) (w : List ℤ) where
   provided-keeps s false e h = tt
 
   word_keeps : (s : List ℤ) (z : ℤ) (k : ℕ → ℤ → Effect) → ((i : ℕ) (a : ℤ) → Keeps place s w (k i a)) → Keeps place s w (with_word w z k)
-  word_keeps s (pos i) k h = element (get_elem? w i)
+  word_keeps s (pos i) k h = element (slice_get w i)
     where
       element : (o : Option ℤ) → Keeps place s w (with_element o (k i))
-      element none = tt
-      element (some a) = h i a
+      element None = tt
+      element (Some a) = h i a
   word_keeps s (negsuc i) k h = tt
 
   value_keeps : (s : List ℤ) (k : ℤ → List ℤ → Effect)
@@ -94,8 +94,8 @@ module _ (place : ℕ) (w : List ℤ) where
 -- ════════════════════════════════════════════════════════════════════════════════════════════
 
 element-keeps : (o : Option Instruction) (x : Kernel) → Keeps x.place x.stack x.row (effect_at o x)
-element-keeps none x = tt
-element-keeps (some i) x = effect-keeps x.place x.row i x.stack
+element-keeps None x = tt
+element-keeps (Some i) x = effect-keeps x.place x.row i x.stack
 
 module _ (code : Code) where
   step_keeps : (x : Kernel) → Keeps x.place x.stack x.row (step code x)
@@ -126,7 +126,7 @@ module _ (code : Code) where
 
 pub handle-steps : (code : List Instruction) (w : List ℤ) → (handle code w).steps ≤ length code
 unfolding handle
-handle-steps code w = omega (arith, (run-left (get_elem? code) (length code) (start w)).steps)
+handle-steps code w = omega (arith, (run-left (slice_get code) (length code) (start w)).steps)
 
 -- the same of a handler that a space holds
 pub handle_space-steps : (space : List ℤ) (count : ℕ) (w : List ℤ) → (handle_space space count w).steps ≤ count
@@ -135,7 +135,7 @@ handle_space-steps space count w = omega (arith, (run-left (held space count) co
 
 pub handle-words : (code : List Instruction) (w : List ℤ) → length (handle code w).row ≡ length w
 unfolding handle
-handle-words code w = (run-left (get_elem? code) (length code) (start w)).words
+handle-words code w = (run-left (slice_get code) (length code) (start w)).words
 
 -- ════════════════════════════════════════════════════════════════════════════════════════════
 -- A run that does not fail
@@ -180,6 +180,6 @@ module _ (code : Code) where
           }
 
 pub handle-leads : (code : List Instruction) (w : List ℤ) → Finished (handle code w).outcome
-    → Leads (get_elem? code) (start w) (handle code w)
+    → Leads (slice_get code) (start w) (handle code w)
 unfolding handle
-handle-leads code w f = run-leads (get_elem? code) (length code) (start w) (omega arith) f
+handle-leads code w f = run-leads (slice_get code) (length code) (start w) (omega arith) f

@@ -1,13 +1,13 @@
 -- The meaning of a handler by recursion on the instructions that remain: a forward jump drops a prefix of them. A run with enough fuel
 -- has this meaning.
 -- Assumes nothing.
+use Rattle.std.proofs.Common.{None, Some, slice_get}
 use mathlib.Core.Path.{◌≡◌, refl, ap, ◌∙◌}
 use mathlib.Core.List.{List, [], ◌∷◌}
-use mathlib.Core.Option.{none, some}
 use Prim.Native.Nat.{ℕ, zero, suc, ◌+◌, ◌-◌, ◌≤◌}
 use native.Mathlib.Omega.{arith}
 use lib.IntN.{ℤ}
-use lib.ListN.{length, get_elem?, drop, length-drop, drop_of_length-le}
+use lib.ListN.{length, drop, length-drop, drop_of_length-le}
 use lib.Seq.{drop-drop}
 use Rattle.handler.specs.Kernel.{Instruction}
 use Rattle.handler.specs.Kernel.{Outcome, returned, denied, failed, Effect, ends, goes, Kernel, Result}
@@ -50,12 +50,12 @@ exec-skip n (i ∷ code) (suc skip) s w = exec-skip n code skip s w
 abbrev pub state : ℕ → List ℤ → List ℤ → ℕ → Kernel
 state p s w k = record { place = p; stack = s; row = w; steps = k }
 
-element-none : {A : Type 0} (l : List A) (p : ℕ) → drop p l ≡ [] → get_elem? l p ≡ none
+element-none : {A : Type 0} (l : List A) (p : ℕ) → drop p l ≡ [] → slice_get l p ≡ None
 element-none [] p e = refl
 element-none (a ∷ l) zero e = let z : ◌≡◌ {A = ℕ} 0 1 = cc in absurd (omega arith)
 element-none (a ∷ l) (suc p) e = element-none l p e
 
-element-some : {A : Type 0} (l : List A) (p : ℕ) (a : A) (rest : List A) → drop p l ≡ a ∷ rest → get_elem? l p ≡ some a
+element-some : {A : Type 0} (l : List A) (p : ℕ) (a : A) (rest : List A) → drop p l ≡ a ∷ rest → slice_get l p ≡ Some a
 element-some [] zero a rest e = let z : ◌≡◌ {A = ℕ} 0 1 = cc in absurd (omega arith)
 element-some [] (suc p) a rest e = let z : ◌≡◌ {A = ℕ} 0 1 = cc in absurd (omega arith)
 element-some (b ∷ l) zero a rest e = cc
@@ -76,11 +76,11 @@ module _ (code : List Instruction) where
   -- a run with this fuel has the meaning of the instructions from its place on
   abbrev Means : ℕ → Type 0
   Means fuel = (p : ℕ) (s w : List ℤ) (k : ℕ) → length code ≤ p + fuel
-      → ending_of (run (get_elem? code) fuel (state p s w k)) ≡ exec (length code) (drop p code) 0 s w
+      → ending_of (run (slice_get code) fuel (state p s w k)) ≡ exec (length code) (drop p code) 0 s w
 
   module _ (fuel : ℕ) (means : Means fuel) (p : ℕ) (s w : List ℤ) (k : ℕ) (h : length code ≤ p + suc fuel) where
     by-effect : (rest : List Instruction) → drop (suc p) code ≡ rest → (e : Effect) → Keeps p s w e
-        → ending_of (after e (state p s w k) (λ y. run (get_elem? code) fuel y))
+        → ending_of (after e (state p s w k) (λ y. run (slice_get code) fuel y))
         ≡ resume e w (λ q t v. exec (length code) rest (q - suc p) t v)
     by-effect rest d (ends o) kept = ended-ending o (state p s w k)
     by-effect rest d (goes q t v) kept =
@@ -89,7 +89,7 @@ module _ (code : List Instruction) where
         ∙ rw (exec-skip (length code) rest (q - suc p) t v, ← d, drop-drop (q - suc p) (suc p) code, e)
 
     by-rest : (l : List Instruction) → drop p code ≡ l
-        → ending_of (run (get_elem? code) (suc fuel) (state p s w k)) ≡ exec (length code) l 0 s w
+        → ending_of (run (slice_get code) (suc fuel) (state p s w k)) ≡ exec (length code) l 0 s w
     unfolding run step exec
     by-rest [] d = rw (element-none code p d)
     by-rest (i ∷ rest) d =

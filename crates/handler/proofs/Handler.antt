@@ -1,12 +1,12 @@
 -- A fault of the handler of a rule table: what it answers, in how many steps, and that no step of it fails.
 -- Assumes nothing.
+use Rattle.std.proofs.Common.{Some, slice_get}
 use mathlib.Core.Path.{◌≡◌, refl, sym, ap, subst, ◌∙◌}
 use mathlib.Core.Bool.{Bool, true, false}
 use mathlib.Core.List.{List, [], ◌∷◌}
-use mathlib.Core.Option.{some}
 use Prim.Native.Nat.{ℕ, zero, suc}
 use native.Mathlib.Omega.{arith}
-use lib.ListN.{length, get_elem?}
+use lib.ListN.{length}
 use borrow.Author.Tests.{le-leb}
 use Rattle.word.proofs.Bool.{never}
 use Rattle.program.specs.Command.{Opcode, ruled, supplies, rule_number}
@@ -45,8 +45,8 @@ marked-reads k h =
     }
 
 -- a rule of a table that has one for each command of a list
-rules-rule : (os : List Opcode) (t : Table) (i : ℕ) (o : Opcode) → RulesWritable os t → get_elem? os i ≡ some o
-    → (a : Rule) × (get_elem? t i ≡ some a) × RuleWritable o a
+rules-rule : (os : List Opcode) (t : Table) (i : ℕ) (o : Opcode) → RulesWritable os t → slice_get os i ≡ Some o
+    → (a : Rule) × (slice_get t i ≡ Some a) × RuleWritable o a
 rules-rule [] t i o w e = let z : ◌≡◌ {A = ℕ} 0 1 = cc in absurd (omega arith)
 rules-rule (p ∷ os) [] i o w e = absurd w
 rules-rule (p ∷ os) (a ∷ t) zero o w e = let same : p ≡ o = cc in (a, refl, rw same at w.0)
@@ -60,7 +60,7 @@ module _ (t : Table) (k : Key) (well : TableWritable t) (marked : WellMarked k) 
       let u = under o in
       let (a, e, w) = rules-rule ruled t (rule_number o) u.owner well.rules u.at in
       rw e
-      (dispatch-run t o (fault_row k) (ending_for k (eval_rule (some a) k)) a refl e
+      (dispatch-run t o (fault_row k) (ending_for k (eval_rule (Some a) k)) a refl e
       (λ rest. rule-run (length (translate t)) u.owner k a rest (rw u.inputs (marked-reads k marked)) w))
 
   handler-ending : ending_of (handle (translate t) (fault_row k)) ≡ ending_for k (evaluate t k)

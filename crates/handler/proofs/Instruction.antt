@@ -1,12 +1,12 @@
 -- Each instruction before the rest of a handler, where it has what it needs.
 -- Assumes nothing.
+use Rattle.std.proofs.Common.{Some, slice_get}
 use mathlib.Core.Path.{◌≡◌, refl, ◌∙◌}
 use mathlib.Core.List.{List, ◌∷◌, ◌++◌}
-use mathlib.Core.Option.{some}
 use Prim.Native.Nat.{ℕ, suc, ◌+◌, ◌-◌, ◌<◌}
 use native.Mathlib.Omega.{arith}
 use lib.IntN.{ℤ, pos, negsuc}
-use lib.ListN.{length, get_elem?, set}
+use lib.ListN.{length, set}
 use lib.Seq.{drop-append_seam}
 use borrow.Author.Tests.{lt-ltb}
 use Rattle.word.specs.Wrap.{add_wrap, sub_wrap}
@@ -56,11 +56,11 @@ module _ (n : ℕ) (rest : List Instruction) (s w : List ℤ) where
   unfolding effect
   exec-add a b = exec-next Add (a ∷ b ∷ s) (add_wrap a b ∷ s) w (λ place. refl)
 
-  pub exec_load : (i : ℕ) (a : ℤ) → get_elem? w i ≡ some a → exec n (Load ∷ rest) 0 (pos i ∷ s) w ≡ exec n rest 0 (a ∷ s) w
+  pub exec_load : (i : ℕ) (a : ℤ) → slice_get w i ≡ Some a → exec n (Load ∷ rest) 0 (pos i ∷ s) w ≡ exec n rest 0 (a ∷ s) w
   unfolding effect
   exec_load i a e = exec-next Load (pos i ∷ s) (a ∷ s) w (λ place. rw e)
 
-  pub exec-store : (i : ℕ) (a b : ℤ) → get_elem? w i ≡ some a
+  pub exec-store : (i : ℕ) (a b : ℤ) → slice_get w i ≡ Some a
       → exec n (Store ∷ rest) 0 (pos i ∷ b ∷ s) w ≡ exec n rest 0 s (set w i b)
   unfolding effect
   exec-store i a b e = exec-next Store (pos i ∷ b ∷ s) s (set w i b) (λ place. rw e)
@@ -95,7 +95,7 @@ module _ (n : ℕ) (rest : List Instruction) (s w : List ℤ) where
   unfolding exec effect
   exec-deny = refl
 
-pub exec-read : (n : ℕ) (rest : List Instruction) (s w : List ℤ) (i : ℕ) (a : ℤ) → get_elem? w i ≡ some a → length s < stack_limit
+pub exec-read : (n : ℕ) (rest : List Instruction) (s w : List ℤ) (i : ℕ) (a : ℤ) → slice_get w i ≡ Some a → length s < stack_limit
     → exec n (read i ++ rest) 0 s w ≡ exec n rest 0 (a ∷ s) w
 exec-read n rest s w i a e h = exec-push n (Load ∷ rest) s w (pos i) h ∙ exec_load n rest s w i a e
 

@@ -1,11 +1,12 @@
 -- The readings of specs/Reading.antt, computed.
 -- Assumes nothing.
+use Rattle.std.proofs.Common.{slice_get}
 use mathlib.Core.Path.{◌≡◌, refl}
 use mathlib.Core.List.{List, [], ◌∷◌, map}
 use Prim.Native.Nat.{ℕ, zero, suc, ◌≤◌}
 use native.Mathlib.Omega.{arith}
 use lib.IntN.{ℤ, pos, negsuc}
-use lib.ListN.{length, get_elem?}
+use lib.ListN.{length}
 use Rattle.word.specs.Wrap.{residue, signed, wrap, add_wrap, sub_wrap}
 use Rattle.program.specs.Command.{Opcode, add, sub, pop, output, push, load, store, jump, bnz, call, ret, output_to, call_n, ret_v, code_of}
 use Rattle.handler.specs.Kernel.{or_word, effect, step, run, handle}
@@ -39,7 +40,7 @@ module _ (p a b c : ℤ) where
 
   -- Store's branch, after 17 steps: what it tests is not known, but for one of three forms
   store-few : (z : ℤ)
-      → Few (run (get_elem? (translate standard_table)) 149 (record { place = 94; stack = z ∷ []; row = row store; steps = 17 })).steps
+      → Few (run (slice_get (translate standard_table)) 149 (record { place = 94; stack = z ∷ []; row = row store; steps = 17 })).steps
   unfolding effect step run compile_rule translate standard_table
   store-few (pos zero) = few-are 33 refl (omega arith, omega arith)
   store-few (pos (suc n)) = few-are 20 refl (omega arith, omega arith)

@@ -1,13 +1,13 @@
 -- The handler space: as long as two words an instruction, and its words give the instructions back.
 -- Assumes nothing.
+use Rattle.std.proofs.Common.{None, Some, slice_get}
 use mathlib.Core.Path.{◌≡◌, refl, sym, ap, fun_ext}
 use mathlib.Core.Bool.{Bool, true, false, ◌&&◌, ◌||◌}
 use mathlib.Core.List.{List, [], ◌∷◌, ◌++◌}
-use mathlib.Core.Option.{none, some}
 use Prim.Native.Nat.{ℕ, zero, suc, ◌+◌, ◌*◌, ◌<◌, ◌≤◌}
 use native.Mathlib.Omega.{arith}
 use lib.IntN.{ℤ, pos}
-use lib.ListN.{length, get_elem?, length-append}
+use lib.ListN.{length, length-append}
 use lib.Dec.{T, ltb, leb, leb→le}
 use borrow.Author.Tests.{ltb-true, ltb-false, lt-ltb, ne_eqb}
 use Rattle.word.specs.Lay.{laid}
@@ -27,7 +27,7 @@ kernel_words-append [] b = refl
 kernel_words-append (i ∷ a) b = ap (λ (ws : List ℤ). pos (code_of i) ∷ operand i ∷ ws) (kernel_words-append a b)
 
 -- the two words of an instruction give it back
-pub known-words : (i : Instruction) → known (pos (code_of i)) (operand i) ≡ some i
+pub known-words : (i : Instruction) → known (pos (code_of i)) (operand i) ≡ Some i
 unfolding known
 known-words Add = refl
 known-words Sub = refl
@@ -56,7 +56,7 @@ outside-other lo hi code other t h g e = by (ltb other lo) refl t
     by true d t = omega (arith, ltb-true other lo d)
     by false d t = omega (arith, leb→le hi other t)
 
-without-code : (lo hi code : ℕ) (is : List Instruction) → T (unused lo hi is) → lo ≤ code → code < hi → with_code code is ≡ none
+without-code : (lo hi code : ℕ) (is : List Instruction) → T (unused lo hi is) → lo ≤ code → code < hi → with_code code is ≡ None
 without-code lo hi code [] t h g = refl
 without-code lo hi code (i ∷ is) t h g =
     let a = and_left (outside lo hi (code_of i)) (unused lo hi is) t in
@@ -64,12 +64,12 @@ without-code lo hi code (i ∷ is) t h g =
     rw (ne_eqb code (code_of i) (outside-other lo hi code (code_of i) a h g)) (without-code lo hi code is b h g)
 
 -- a code between two bounds, where no instruction has one, stands for none
-pub unknown-code : (lo hi code : ℕ) (n : ℤ) → T (unused lo hi (instructions n)) → lo ≤ code → code < hi → known (pos code) n ≡ none
+pub unknown-code : (lo hi code : ℕ) (n : ℤ) → T (unused lo hi (instructions n)) → lo ≤ code → code < hi → known (pos code) n ≡ None
 unfolding known
 unknown-code lo hi code n t h g = without-code lo hi code (instructions n) t h g
 
 words-at : (code : List Instruction) (rest : List ℤ) (i : ℕ) → i < length code
-    → instruction_at (kernel_words code ++ rest) i ≡ get_elem? code i
+    → instruction_at (kernel_words code ++ rest) i ≡ slice_get code i
 unfolding kernel_words
 words-at [] rest i h = absurd (omega arith)
 words-at (a ∷ code) rest zero h = known-words a
@@ -80,11 +80,11 @@ words-at (a ∷ code) rest (suc i) h =
 
 -- a space that a handler was laid into holds its instructions
 pub instruction_at-laid : (code : List Instruction) (old : List ℤ) (i : ℕ) → i < length code
-    → instruction_at (laid (kernel_words code) old) i ≡ get_elem? code i
+    → instruction_at (laid (kernel_words code) old) i ≡ slice_get code i
 unfolding laid
 instruction_at-laid code old i h = words-at code _ i h
 
-element-outside : (code : List Instruction) (i : ℕ) → length code ≤ i → get_elem? code i ≡ none
+element-outside : (code : List Instruction) (i : ℕ) → length code ≤ i → slice_get code i ≡ None
 element-outside [] i h = refl
 element-outside (a ∷ code) zero h = absurd (omega arith)
 element-outside (a ∷ code) (suc i) h = element-outside code i (omega arith)
@@ -94,12 +94,12 @@ laid-long : (code : List Instruction) (old : List ℤ) → 2 * length code ≤ l
 unfolding laid
 laid-long code old = rw length-append (omega (arith, kernel_words-length code))
 
-held-laid : (code : List Instruction) (old : List ℤ) (i : ℕ) → held (laid (kernel_words code) old) (length code) i ≡ get_elem? code i
+held-laid : (code : List Instruction) (old : List ℤ) (i : ℕ) → held (laid (kernel_words code) old) (length code) i ≡ slice_get code i
 held-laid code old i = by (ltb i (length code)) refl
   where
     by : (b : Bool) → ltb i (length code) ≡ b
         → held_if (b && ltb (2 * i + 1) (length (laid (kernel_words code) old))) (instruction_at (laid (kernel_words code) old) i)
-        ≡ get_elem? code i
+        ≡ slice_get code i
     by true e =
         let h = ltb-true i (length code) e in
         rw (lt-ltb (2 * i + 1) (length (laid (kernel_words code) old)) (omega (arith, laid-long code old))) (instruction_at-laid code old i h)

@@ -1,7 +1,6 @@
 -- What document 01 asks of the handler of a rule table, which is left to the translator; proofs/Sound.antt shows it of every table that can
 -- be written (TableWritable of the policy crate), as every accepted one can. The contracts over rule tables promise it.
-use Rattle.std.specs.Prelude.{ℕ, suc, ◌+◌, ◌<◌, ◌≤◌, ◌≡◌, List, [], ◌∷◌, ◌++◌, ℤ, pos, negsuc, length}
-use Rattle.std.proofs.Math.ListN.{get_elem?}
+use Rattle.std.specs.Prelude.{ℕ, suc, ◌+◌, ◌<◌, ◌≤◌, ◌≡◌, List, [], ◌∷◌, ◌++◌, ℤ, pos, negsuc, length, slice_get}
 use Rattle.program.specs.Command.{Opcode, code_of}
 use Rattle.machine.specs.Rule.{Key, Verdict, denied, allowed}
 use Rattle.machine.specs.Holds.{WellMarked}
@@ -34,8 +33,8 @@ pub data Way (code : Code) : Kernel → Kernel → Type 0 where
 -- and the row is as the fault wrote it. With that last one they are no more than the handler has instructions
 pub record Handled (t : Table) (k : Key) (code : List Instruction) (x : Result) : Type 0 where
   pub last : Kernel
-  pub way : Way (get_elem? code) (start (fault_row k)) last
-  pub ending : step (get_elem? code) last ≡ ends (outcome_of (evaluate t k))
+  pub way : Way (slice_get code) (start (fault_row k)) last
+  pub ending : step (slice_get code) last ≡ ends (outcome_of (evaluate t k))
   pub outcome : x.outcome ≡ outcome_of (evaluate t k)
   pub row : x.row ≡ row_of k (evaluate t k)
   pub left : x.row ≡ last.row

@@ -1,8 +1,6 @@
 -- The kernel of document 01: the commands of a fault handler (kernel instructions), and how they run over the seven words of the rule
 -- memory (the row). They act as on sheets, without labels, but that sums and differences wrap.
-use Rattle.std.specs.Prelude.{ℕ, zero, suc, Bool, true, false, List, [], ◌∷◌, ℤ, pos, negsuc, length, set, ltb}
-use Rattle.std.proofs.Math.Option.{Option, none, some}
-use Rattle.std.proofs.Math.ListN.{get_elem?}
+use Rattle.std.specs.Prelude.{ℕ, zero, suc, Bool, true, false, List, [], ◌∷◌, ℤ, pos, negsuc, length, set, ltb, None, Option, Some, slice_get}
 use Rattle.std.specs.Int.Bits.{bit_or}
 use Rattle.word.specs.Wrap.{residue, signed, add_wrap, sub_wrap}
 use Rattle.machine.specs.Step.{branch}
@@ -44,11 +42,11 @@ with_values s k = with_value s (λ top below. with_value below (λ next rest. k 
 
 -- a word of the row at an address
 abbrev pub with_element : Option ℤ → (ℤ → Effect) → Effect
-with_element none k = ends failed
-with_element (some a) k = k a
+with_element None k = ends failed
+with_element (Some a) k = k a
 
 abbrev pub with_word : List ℤ → ℤ → (ℕ → ℤ → Effect) → Effect
-with_word row (pos i) k = with_element (get_elem? row i) (k i)
+with_word row (pos i) k = with_element (slice_get row i) (k i)
 with_word row (negsuc i) k = ends failed
 
 -- room on the stack; a jump that goes forward
@@ -111,8 +109,8 @@ ended denied x = record { outcome = denied; row = x.row; steps = suc x.steps }
 ended failed x = record { outcome = failed; row = x.row; steps = x.steps }
 
 abbrev pub effect_at : Option Instruction → Kernel → Effect
-effect_at none x = ends failed
-effect_at (some i) x = effect i x.place x.stack x.row
+effect_at None x = ends failed
+effect_at (Some i) x = effect i x.place x.stack x.row
 
 -- instructions by their places
 abbrev pub Code : Type 0
@@ -133,4 +131,4 @@ run code (suc fuel) x = after (step code x) x (λ y. run code fuel y)
 
 -- a handler on a row: it may take as many steps as it has instructions
 unfoldable pub handle : List Instruction → List ℤ → Result
-handle code row = run (get_elem? code) (length code) (start row)
+handle code row = run (slice_get code) (length code) (start row)

@@ -1,6 +1,5 @@
 -- The handler space: two words an instruction, its code and its operand or 0.
-use Rattle.std.specs.Prelude.{ℕ, ◌+◌, ◌*◌, Bool, true, false, ◌&&◌, List, [], ◌∷◌, ℤ, pos, negsuc, length, get_or, ltb, eqb}
-use Rattle.std.proofs.Math.Option.{Option, none, some}
+use Rattle.std.specs.Prelude.{ℕ, ◌+◌, ◌*◌, Bool, true, false, ◌&&◌, List, [], ◌∷◌, ℤ, pos, negsuc, length, get_or, ltb, eqb, None, Option, Some}
 use Rattle.program.specs.Command as Sheet
 use Rattle.handler.specs.Kernel.{Instruction, Add, Sub, Or, Load, Store, Dup, Swap, Jump, Ret, Push, Bnz}
 use Rattle.handler.specs.Kernel.{Code, Result, run, start}
@@ -43,17 +42,17 @@ instructions n = Add ∷ Sub ∷ Push n ∷ Load ∷ Store ∷ Jump ∷ Bnz n �
 
 -- the one that has a code
 abbrev pub found_if : Bool → Instruction → Option Instruction → Option Instruction
-found_if true i rest = some i
+found_if true i rest = Some i
 found_if false i rest = rest
 
 abbrev pub with_code : ℕ → List Instruction → Option Instruction
-with_code code [] = none
+with_code code [] = None
 with_code code (i ∷ is) = found_if (eqb code (code_of i)) i (with_code code is)
 
 -- the instruction that two words stand for
 unfoldable pub known : ℤ → ℤ → Option Instruction
 known (pos code) n = with_code code (instructions n)
-known (negsuc code) n = none
+known (negsuc code) n = None
 
 -- the instruction at a place
 abbrev pub instruction_at : List ℤ → ℕ → Option Instruction
@@ -62,7 +61,7 @@ instruction_at space i = known (get_or space (2 * i) (pos 0)) (get_or space (2 *
 -- the instructions of a space that holds `count` of them: one is there if both of its words are
 abbrev pub held_if : Bool → Option Instruction → Option Instruction
 held_if true o = o
-held_if false o = none
+held_if false o = None
 
 abbrev pub held : List ℤ → ℕ → Code
 held space count i = held_if (ltb i count && ltb (2 * i + 1) (length space)) (instruction_at space i)

@@ -16,6 +16,7 @@ pub fn read_full<R: Read>(from: &mut R, space: &mut [u8]) -> io::Result<usize>
         × Consumes (R.remaining from.old) (R.remaining from.new) (take n space.new)) }
 {
     let mut done: usize = 0;
+    // a read may give fewer bytes than it has room for
     while done < space.len() {
         let n = from.read(&mut space[done..])?;
         if n == 0 {

@@ -1,35 +1,31 @@
 -- The instructions on words: each record that the code hands back stands for the instruction's effect.
 -- Assumes nothing.
+use Rattle.std.proofs.Common.{None, Some, Option, Err, slice_get}
 use mathlib.Core.Path.{◌≡◌, refl, sym, ap, ap₂, ◌∙◌}
 use mathlib.Core.Bool.{Bool, true, false, cond}
 use mathlib.Core.List.{List, [], ◌∷◌}
-use mathlib.Core.Option.{Option, none, some}
 use Prim.Native.Nat.{ℕ, zero, suc, ◌+◌, ◌-◌, ◌%◌, ◌^◌, ◌<◌, ◌≤◌}
 use native.Mathlib.Nat.{mod-eq_of_lt}
 use native.Mathlib.Omega.{arith}
 use lib.IntN.{ℤ, pos, negsuc, ◌+ℤ◌}
-use lib.ListN.{length, get_or, set, get_elem?}
-use lib.Seq.{set_out}
+use lib.ListN.{length, get_or, set}
 use mir.Syntax.{w64}
 use mir.Val.{SFits}
 use lib.Dec.{ltb, eqb}
 use borrow.Author.Tests.{lt-ltb, le-ltb, ltb-true, ltb-false, eqb-true, eqb-false}
-use Rattle.word.specs.declared.number.Index.{Index}
 use Rattle.word.specs.Number.{is_zero, index_if, index_of}
 use Rattle.word.specs.Wrap.{residue, add_wrap, sub_wrap}
 use Rattle.word.proofs.Bits.{index-found}
 use Rattle.word.proofs.Bool.{never}
 use Rattle.machine.specs.Step.{branch}
-use Rattle.kernel.specs.declared.Whole.TheVariants as Whole
-use Rattle.kernel.specs.declared.How.TheVariants as How
+use Rattle.kernel.specs.declared.Outcome.TheVariants as End
 use Rattle.kernel.specs.declared.Registers.{Registers}
-use Rattle.kernel.specs.declared.Stepped.{Stepped}
 use Rattle.handler.specs.Kernel.{Instruction, Add, Sub, Or, Load, Store, Dup, Swap, Jump, Ret, Push, Bnz}
 use Rattle.handler.specs.Kernel.{Effect, ends, goes, failed, with_values, with_word, provided, pushing, jumping, effect, or_word}
 use Rattle.handler.specs.Space.{code_of, known}
 use Rattle.handler.proofs.Space.{unknown-code}
 use Rattle.word.specs.Choose.{choose}
-use Rattle.kernel.specs.Words.{topped, stack_of, registers, below, moved, whole_of, ending, going, effect_of}
+use Rattle.kernel.specs.Words.{topped, stack_of, registers, below, moved, Step, going, effect_of}
 use Rattle.kernel.specs.Words.{DoesOn, Does, Acts, folding, combined, jumping_from}
 use Rattle.kernel.proofs.Words.{lying-set, lying-topped, topped-at, topped-push, stack-length, below-stack}
 use Rattle.kernel.proofs.Words.{value-one, value_none, values-two, values-none}
@@ -38,17 +34,13 @@ use Rattle.kernel.proofs.Words.{value-one, value_none, values-two, values-none}
 -- Going on
 -- ════════════════════════════════════════════════════════════════════════════════════════════
 
--- no word of the row changes
-pub going-effect : (s : Registers) (w row : List ℤ) → length row ≡ 7 → effect_of (going s) w row ≡ goes s.place (stack_of s w) row
-going-effect s w row h = ap (λ (x : List ℤ). goes s.place (stack_of s w) x) (set_out row 7 (pos 0) (omega arith))
-
 -- at the next place
-going_next : (p d : ℕ) (top : ℤ) (w row t : List ℤ) → length row ≡ 7 → topped top d w ≡ t
+going_next : (p d : ℕ) (top : ℤ) (w row t : List ℤ) → topped top d w ≡ t
     → effect_of (going (registers (p + 1) d top)) w row ≡ goes (suc p) t row
 unfolding stack_of
-going_next p d top w row t h e =
+going_next p d top w row t e =
     let q : p + 1 ≡ suc p = omega arith in
-    going-effect (registers (p + 1) d top) w row h ∙ ap₂ (λ (n : ℕ) (x : List ℤ). goes n x row) q e
+    ap₂ (λ (n : ℕ) (x : List ℤ). goes n x row) q e
 
 -- ════════════════════════════════════════════════════════════════════════════════════════════
 -- Add, Sub, Or
@@ -66,7 +58,7 @@ folding-effect code place s row = by (eqb code (code_of Add)) (eqb code (code_of
     by false false = refl
 
 module _ (s : Registers) (w : List ℤ) where
-  pub fold-none : (code : ℕ) (w' : List ℤ) → s.depth < 2 → Does (folding code) s w (ending How.Failed) w'
+  pub fold-none : (code : ℕ) (w' : List ℤ) → s.depth < 2 → Does (folding code) s w (Err End.Failed) w'
   unfolding Does DoesOn
   fold-none code w' h row e = sym (folding-effect code s.place (stack_of s w) row ∙ values-none s w _ h)
 
@@ -74,14 +66,14 @@ module _ (s : Registers) (w : List ℤ) where
       → Does (folding code) s w (going (registers (s.place + 1) (s.depth - 1) (combined code s.top (get_or w (s.depth - 1) (pos 0))))) w
   unfolding Does DoesOn
   fold_done code h row e =
-      going_next s.place (s.depth - 1) _ w row _ e (topped-at w _ (s.depth - 1) (s.depth - 2) (omega arith))
+      going_next s.place (s.depth - 1) _ w row _ (topped-at w _ (s.depth - 1) (s.depth - 2) (omega arith))
       ∙ sym (folding-effect code s.place (stack_of s w) row ∙ values-two s w _ h)
 
   -- ════════════════════════════════════════════════════════════════════════════════════════════
   -- Push, Dup, Swap
   -- ════════════════════════════════════════════════════════════════════════════════════════════
 
-  pub push-full : (a : ℤ) (w' : List ℤ) → 64 ≤ s.depth → Does (Push a) s w (ending How.Failed) w'
+  pub push-full : (a : ℤ) (w' : List ℤ) → 64 ≤ s.depth → Does (Push a) s w (Err End.Failed) w'
   unfolding Does DoesOn effect
   push-full a w' h row e = rw (stack-length s w, le-ltb s.depth 64 h)
 
@@ -90,17 +82,17 @@ module _ (s : Registers) (w : List ℤ) where
   unfolding Does DoesOn effect stack_of
   push-done a h g row e =
       rw (stack-length s w, lt-ltb s.depth 64 h)
-      (going_next s.place (s.depth + 1) a _ row _ e (topped-push w s.top a s.depth (omega arith)))
+      (going_next s.place (s.depth + 1) a _ row _ (topped-push w s.top a s.depth (omega arith)))
 
-  pub dup-none : (w' : List ℤ) → s.depth < 1 → Does Dup s w (ending How.Failed) w'
+  pub dup-none : (w' : List ℤ) → s.depth < 1 → Does Dup s w (Err End.Failed) w'
   unfolding Does DoesOn effect
   dup-none w' h row e = sym (value_none s w _ h)
 
-  pub dup-done : (r : Stepped) (w' : List ℤ) → 1 ≤ s.depth → Does (Push s.top) s w r w' → Does Dup s w r w'
+  pub dup-done : (r : Step) (w' : List ℤ) → 1 ≤ s.depth → Does (Push s.top) s w r w' → Does Dup s w r w'
   unfolding Does DoesOn effect
   dup-done r w' h k row e = k row e ∙ sym (value-one s w (λ a rest. pushing s.place a (stack_of s w) row) h)
 
-  pub swap-none : (w' : List ℤ) → s.depth < 2 → Does Swap s w (ending How.Failed) w'
+  pub swap-none : (w' : List ℤ) → s.depth < 2 → Does Swap s w (Err End.Failed) w'
   unfolding Does DoesOn effect
   swap-none w' h row e = sym (values-none s w _ h)
 
@@ -108,7 +100,7 @@ module _ (s : Registers) (w : List ℤ) where
       → Does Swap s w (going (registers (s.place + 1) s.depth (get_or w (s.depth - 1) (pos 0)))) (set w (s.depth - 1) s.top)
   unfolding Does DoesOn effect
   swap-done h l g row e =
-      going_next s.place s.depth _ _ row _ e
+      going_next s.place s.depth _ _ row _
       (topped-at (set w (s.depth - 1) s.top) _ s.depth (s.depth - 1) (omega arith)
       ∙ ap (λ (xs : List ℤ). get_or w (s.depth - 1) (pos 0) ∷ xs)
       (lying-set w (s.depth - 1) (s.depth - 2) s.top (omega arith) (omega arith)))
@@ -118,70 +110,62 @@ module _ (s : Registers) (w : List ℤ) where
 -- Load and Store
 -- ════════════════════════════════════════════════════════════════════════════════════════════
 
-element-at : (row : List ℤ) (i : ℕ) → i < length row → get_elem? row i ≡ some (get_or row i (pos 0))
+element-at : (row : List ℤ) (i : ℕ) → i < length row → slice_get row i ≡ Some (get_or row i (pos 0))
 element-at [] i h = absurd (omega arith)
 element-at (a ∷ row) zero h = refl
 element-at (a ∷ row) (suc i) h = element-at row i (omega arith)
 
-element-none : (row : List ℤ) (i : ℕ) → length row ≤ i → get_elem? row i ≡ none
+element-none : (row : List ℤ) (i : ℕ) → length row ≤ i → slice_get row i ≡ None
 element-none [] i h = refl
 element-none (a ∷ row) zero h = absurd (omega arith)
 element-none (a ∷ row) (suc i) h = element-none row i (omega arith)
 
 -- an address in the row, and one outside
-word_in : (row : List ℤ) (z : ℤ) (i : ℕ) (k : ℕ → ℤ → Effect) → length row ≡ 7 → index_of z 7 ≡ Index.At i
+word_in : (row : List ℤ) (z : ℤ) (i : ℕ) (k : ℕ → ℤ → Effect) → length row ≡ 7 → index_of z 7 ≡ Some i
     → with_word row z k ≡ k i (get_or row i (pos 0))
 word_in row z i k h e = let q = index-found z 7 i e in rw (q.0, element-at row i (omega (arith, q.1)))
 
-word_out : (row : List ℤ) (z : ℤ) (k : ℕ → ℤ → Effect) → length row ≡ 7 → index_of z 7 ≡ Index.Outside → with_word row z k ≡ ends failed
+word_out : (row : List ℤ) (z : ℤ) (k : ℕ → ℤ → Effect) → length row ≡ 7 → index_of z 7 ≡ None → with_word row z k ≡ ends failed
 unfolding index_of
 word_out row (pos n) k h e = by (ltb n 7) refl e
   where
-    by : (b : Bool) → ltb n 7 ≡ b → index_if b n ≡ Index.Outside → with_word row (pos n) k ≡ ends failed
+    by : (b : Bool) → ltb n 7 ≡ b → index_if b n ≡ None → with_word row (pos n) k ≡ ends failed
     by true t f = absurd (let x : ◌≡◌ {A = ℕ} 0 1 = cc in omega arith)
     by false t f = rw (element-none row n (omega (arith, ltb-false n 7 t)))
 word_out row (negsuc n) k h e = refl
 
 module _ (s : Registers) (w : List ℤ) where
-  pub load-none : (row : List ℤ) → s.depth < 1 → DoesOn row Load s w (ending How.Failed) w
+  pub load-none : (row : List ℤ) → s.depth < 1 → DoesOn row Load s w (Err End.Failed) row w
   unfolding DoesOn effect
   load-none row h = sym (value_none s w _ h)
 
-  pub load-out : (row : List ℤ) → 1 ≤ s.depth → length row ≡ 7 → index_of s.top 7 ≡ Index.Outside
-      → DoesOn row Load s w (ending How.Failed) w
+  pub load-out : (row : List ℤ) → 1 ≤ s.depth → length row ≡ 7 → index_of s.top 7 ≡ None
+      → DoesOn row Load s w (Err End.Failed) row w
   unfolding DoesOn effect
   load-out row h e o = sym (value-one s w _ h ∙ word_out row _ _ e o)
 
-  pub load-done : (row : List ℤ) (i : ℕ) → 1 ≤ s.depth → length row ≡ 7 → index_of s.top 7 ≡ Index.At i
-      → DoesOn row Load s w (going (registers (s.place + 1) s.depth (get_or row i (pos 0)))) w
+  pub load-done : (row : List ℤ) (i : ℕ) → 1 ≤ s.depth → length row ≡ 7 → index_of s.top 7 ≡ Some i
+      → DoesOn row Load s w (going (registers (s.place + 1) s.depth (get_or row i (pos 0)))) row w
   unfolding DoesOn effect
   load-done row i h e o =
-      going_next s.place s.depth _ w row _ e (topped-at w _ s.depth (s.depth - 1) (omega arith))
+      going_next s.place s.depth _ w row _ (topped-at w _ s.depth (s.depth - 1) (omega arith))
       ∙ sym (value-one s w _ h ∙ word_in row _ i _ e o)
 
-  pub store-none : (w' : List ℤ) → s.depth < 2 → Does Store s w (ending How.Failed) w'
-  unfolding Does DoesOn effect
-  store-none w' h row e = sym (values-none s w _ h)
+  pub store-none : (row w' : List ℤ) → s.depth < 2 → DoesOn row Store s w (Err End.Failed) row w'
+  unfolding DoesOn effect
+  store-none row w' h = sym (values-none s w _ h)
 
-  pub store_out : (w' : List ℤ) → 2 ≤ s.depth → index_of s.top 7 ≡ Index.Outside → Does Store s w (ending How.Failed) w'
-  unfolding Does DoesOn effect
-  store_out w' h o row e = sym (values-two s w _ h ∙ word_out row _ _ e o)
+  pub store_out : (row w' : List ℤ) → 2 ≤ s.depth → length row ≡ 7 → index_of s.top 7 ≡ None → DoesOn row Store s w (Err End.Failed) row w'
+  unfolding DoesOn effect
+  store_out row w' h e o = sym (values-two s w _ h ∙ word_out row _ _ e o)
 
   -- without the two topmost entries
-  abbrev pub storing : ℕ → Stepped
-  storing i =
-      record {
-        how = How.Goes;
-        at = registers (s.place + 1) (s.depth - 2) (get_or w (s.depth - 2) (pos 0));
-        address = i;
-        word = get_or w (s.depth - 1) (pos 0);
-      }
-
-  pub store-done : (i : ℕ) → 2 ≤ s.depth → index_of s.top 7 ≡ Index.At i → Does Store s w (storing i) w
-  unfolding Does DoesOn effect stack_of
-  store-done i h o row e =
-      let q : s.place + 1 ≡ suc s.place = omega arith in
-      ap₂ (λ (n : ℕ) (xs : List ℤ). goes n xs (set row i (get_or w (s.depth - 1) (pos 0)))) q (lying-topped w (s.depth - 2))
+  pub store-done : (row : List ℤ) (i : ℕ) → 2 ≤ s.depth → length row ≡ 7 → index_of s.top 7 ≡ Some i
+      → DoesOn row Store s w (going (registers (s.place + 1) (s.depth - 2) (get_or w (s.depth - 2) (pos 0))))
+      (set row i (get_or w (s.depth - 1) (pos 0))) w
+  unfolding DoesOn effect
+  store-done row i h e o =
+      going_next s.place (s.depth - 2) _ w (set row i (get_or w (s.depth - 1) (pos 0))) _ (lying-topped w (s.depth - 2))
       ∙ sym (values-two s w _ h ∙ word_in row _ i _ e o)
 
 -- ════════════════════════════════════════════════════════════════════════════════════════════
@@ -190,18 +174,18 @@ module _ (s : Registers) (w : List ℤ) where
 
 module _ (s : Registers) (w row : List ℤ) (e : length row ≡ 7) where
   -- where a test chooses between a place and failing
-  if-goes : (b : Bool) (n : ℕ) → effect_of (choose b (going (moved s n)) (ending How.Failed)) w row ≡ provided b (goes n (stack_of s w) row)
+  if-goes : (b : Bool) (n : ℕ) → effect_of (choose b (going (moved s n)) (Err End.Failed)) w row ≡ provided b (goes n (stack_of s w) row)
   unfolding stack_of
-  if-goes true n = going-effect (moved s n) w row e
+  if-goes true n = refl
   if-goes false n = refl
 
   jump-effect : (base : ℕ) (z : ℤ) → base ≤ s.place
-      → effect_of (jumping_from base (whole_of z) s) w row ≡ jumping s.place (pos base +ℤ z) (stack_of s w) row
+      → effect_of (jumping_from base z s) w row ≡ jumping s.place (pos base +ℤ z) (stack_of s w) row
   jump-effect base (pos n) h = if-goes (ltb s.place (base + n)) (base + n)
   jump-effect base (negsuc n) h = by (ltb base (suc n)) refl (eqb n base) refl
     where
       by : (b : Bool) → ltb base (suc n) ≡ b → (x : Bool) → eqb n base ≡ x
-          → effect_of (choose x (ending How.Denied) (ending How.Failed)) w row
+          → effect_of (choose x (Err End.Denied) (Err End.Failed)) w row
           ≡ jumping s.place (cond b (negsuc (suc n - suc base)) (pos (base - suc n))) (stack_of s w) row
       by true t true f = let q : suc n - suc base ≡ 0 = omega (arith, eqb-true n base f) in rw q
       by true t false f =
@@ -214,27 +198,23 @@ from_zero : (z : ℤ) → pos 0 +ℤ z ≡ z
 from_zero (pos n) = let e : 0 + n ≡ n = omega arith in ap pos e
 from_zero (negsuc n) = let e : suc n - 1 ≡ n = omega arith in rw (lt-ltb 0 (suc n) (omega arith), e)
 
-pub whole-small : (z : ℤ) (n : ℕ) → SFits w64 z → whole_of z ≡ Whole.At n → n < 2 ^ 63
-whole-small (pos m) n f e = let q : m ≡ n = cc in let h = f.sfits in omega arith
-whole-small (negsuc m) n f e = absurd (let x : ◌≡◌ {A = ℕ} 0 1 = cc in omega arith)
-
 module _ (s : Registers) (w : List ℤ) where
-  pub jump-none : (w' : List ℤ) → s.depth < 1 → Does Jump s w (ending How.Failed) w'
+  pub jump-none : (w' : List ℤ) → s.depth < 1 → Does Jump s w (Err End.Failed) w'
   unfolding Does DoesOn effect
   jump-none w' h row e = sym (value_none s w _ h)
 
-  pub jump-done : 1 ≤ s.depth → Does Jump s w (jumping_from 0 (whole_of s.top) (below s w)) w
+  pub jump-done : 1 ≤ s.depth → Does Jump s w (jumping_from 0 s.top (below s w)) w
   unfolding Does DoesOn effect
   jump-done h row e =
       jump-effect (below s w) w row e 0 s.top (omega arith) ∙ rw (from_zero s.top, below-stack s w) (sym (value-one s w _ h))
 
   module _ (z : ℤ) where
-    pub bnz-none : (w' : List ℤ) → s.depth < 1 → Does (Bnz z) s w (ending How.Failed) w'
+    pub bnz-none : (w' : List ℤ) → s.depth < 1 → Does (Bnz z) s w (Err End.Failed) w'
     unfolding Does DoesOn effect
     bnz-none w' h row e = sym (value_none s w _ h)
 
-    bnz-target : (target : ℤ) (r : Stepped) (row : List ℤ) → 1 ≤ s.depth → branch s.top (pos s.place) z ≡ target
-        → effect_of r w row ≡ jumping s.place target (stack_of (below s w) w) row → DoesOn row (Bnz z) s w r w
+    bnz-target : (target : ℤ) (r : Step) (row : List ℤ) → 1 ≤ s.depth → branch s.top (pos s.place) z ≡ target
+        → effect_of r w row ≡ jumping s.place target (stack_of (below s w) w) row → DoesOn row (Bnz z) s w r row w
     unfolding DoesOn effect
     bnz-target target r row h t f =
         f ∙ rw (below-stack s w) (sym (value-one s w (λ b rest. jumping s.place (branch b (pos s.place) z) rest row) h ∙ rw t))
@@ -243,17 +223,17 @@ module _ (s : Registers) (w : List ℤ) where
     unfolding Does DoesOn stack_of
     bnz-zero h q row e =
         bnz-target (pos (s.place + 1)) (going (moved (below s w) (s.place + 1))) row h (by s.top q)
-        (going-effect (moved (below s w) (s.place + 1)) w row e ∙ rw (lt-ltb s.place (s.place + 1) (omega arith)))
+        (refl ∙ rw (lt-ltb s.place (s.place + 1) (omega arith)))
       where
         by : (a : ℤ) → is_zero a ≡ true → branch a (pos s.place) z ≡ pos (s.place + 1)
         by (pos zero) f = refl
         by (pos (suc n)) f = never (cc)
         by (negsuc n) f = never (cc)
 
-    pub bnz-taken : 1 ≤ s.depth → is_zero s.top ≡ false → Does (Bnz z) s w (jumping_from s.place (whole_of z) (below s w)) w
+    pub bnz-taken : 1 ≤ s.depth → is_zero s.top ≡ false → Does (Bnz z) s w (jumping_from s.place z (below s w)) w
     unfolding Does DoesOn
     bnz-taken h q row e =
-        bnz-target (pos s.place +ℤ z) (jumping_from s.place (whole_of z) (below s w)) row h (by s.top q)
+        bnz-target (pos s.place +ℤ z) (jumping_from s.place z (below s w)) row h (by s.top q)
         (jump-effect (below s w) w row e s.place z (omega arith))
       where
         by : (a : ℤ) → is_zero a ≡ false → branch a (pos s.place) z ≡ pos s.place +ℤ z
@@ -265,32 +245,8 @@ module _ (s : Registers) (w : List ℤ) where
 -- The instruction that a code stands for
 -- ════════════════════════════════════════════════════════════════════════════════════════════
 
-pub fold-known : (code : ℕ) (n : ℤ) → code_of Add ≤ code → code ≤ code_of Sub → known (pos code) n ≡ some (folding code)
-unfolding known
-fold-known zero n h g = absurd (omega arith)
-fold-known (suc zero) n h g = refl
-fold-known (suc (suc zero)) n h g = refl
-fold-known (suc (suc (suc code))) n h g = absurd (omega arith)
-
-pub or-known : (code : ℕ) (n : ℤ) → code ≡ code_of Or → known (pos code) n ≡ some (folding code)
-unfolding known
-or-known code n e = rw e
-
--- between the codes, and past them all
-pub below-known : (code : ℕ) (n : ℤ) → code < code_of Add → known (pos code) n ≡ none
-below-known code n h = unknown-code 0 (code_of Add) code n tt (omega arith) h
-
-pub after-sub-known : (code : ℕ) (n : ℤ) → code_of Sub < code → code < code_of (Push n) → known (pos code) n ≡ none
-after-sub-known code n h g = unknown-code (suc (code_of Sub)) (code_of (Push n)) code n tt h g
-
-pub after-bnz-known : (code : ℕ) (n : ℤ) → code_of (Bnz n) < code → code < code_of Or → (code ≡ code_of Ret → ⊥) → known (pos code) n ≡ none
-after-bnz-known code n h g f = by (ltb code (code_of Ret)) refl
-  where
-    by : (b : Bool) → ltb code (code_of Ret) ≡ b → known (pos code) n ≡ none
-    by true e = unknown-code (suc (code_of (Bnz n))) (code_of Ret) code n tt h (ltb-true code (code_of Ret) e)
-    by false e = let k = ltb-false code (code_of Ret) e in unknown-code (suc (code_of Ret)) (code_of Or) code n tt (omega arith) g
-
-pub past-known : (code : ℕ) (n : ℤ) → code_of Swap < code → code < 2 ^ 64 → known (pos code) n ≡ none
+-- past them all
+pub past-known : (code : ℕ) (n : ℤ) → code_of Swap < code → code < 2 ^ 64 → known (pos code) n ≡ None
 past-known code n h g = unknown-code (suc (code_of Swap)) (2 ^ 64) code n tt h g
 
 -- a word's bits: those of a negative code are past all codes
@@ -305,19 +261,40 @@ residue-known (negsuc code) n f =
     let e : code % 2 ^ 64 ≡ code = mod-eq_of_lt (omega arith) in
     rw e (past-known (2 ^ 64 - suc code) n (omega arith) (omega arith))
 
-module _ (row : List ℤ) (o : Option Instruction) (s : Registers) (w w' : List ℤ) (r : Stepped) where
-  pub acts-on : (i : Instruction) → o ≡ some i → DoesOn row i s w r w' → Acts row o s w r w'
+module _ (row : List ℤ) (o : Option Instruction) (s : Registers) (w : List ℤ) where
+  pub acts-on : (i : Instruction) (r : Step) (row' w' : List ℤ) → o ≡ Some i → DoesOn row i s w r row' w' → Acts row o s w r row' w'
   unfolding DoesOn Acts
-  acts-on i e h = rw e h
+  acts-on i r row' w' e h l = rw e h
 
-  pub acts : (i : Instruction) → length row ≡ 7 → o ≡ some i → Does i s w r w' → Acts row o s w r w'
-  unfolding Does DoesOn
-  acts i l e h = acts-on i e (h row l)
+  pub acts : (i : Instruction) (r : Step) (w' : List ℤ) → o ≡ Some i → Does i s w r w' → Acts row o s w r row w'
+  unfolding Does DoesOn Acts
+  acts i r w' e h l = rw e (h row l)
 
-  pub acts-none : o ≡ none → r ≡ ending How.Failed → Acts row o s w r w'
+  pub acts_none : (w' : List ℤ) → o ≡ None → Acts row o s w (Err End.Failed) row w'
   unfolding Acts
-  acts-none e f = rw (e, f)
+  acts_none w' e l = rw e
 
-  pub acts-ret : o ≡ some Ret → r ≡ ending How.Returned → Acts row o s w r w'
+  pub acts_ret : (w' : List ℤ) → o ≡ Some Ret → Acts row o s w (Err End.Returned) row w'
   unfolding Acts effect
-  acts-ret e f = rw (e, f)
+  acts_ret w' e l = rw e
+
+-- where a code is or is not: Add and Sub, below them all, and between them
+pub fold-known : (code : ℕ) (n : ℤ) → code_of Add ≤ code → code ≤ code_of Sub → known (pos code) n ≡ Some (folding code)
+unfolding known
+fold-known zero n h g = absurd (omega arith)
+fold-known (suc zero) n h g = refl
+fold-known (suc (suc zero)) n h g = refl
+fold-known (suc (suc (suc code))) n h g = absurd (omega arith)
+
+pub below-known : (code : ℕ) (n : ℤ) → code < code_of Add → known (pos code) n ≡ None
+below-known code n h = unknown-code 0 (code_of Add) code n tt (omega arith) h
+
+pub after-sub-known : (code : ℕ) (n : ℤ) → code_of Sub < code → code < code_of (Push n) → known (pos code) n ≡ None
+after-sub-known code n h g = unknown-code (suc (code_of Sub)) (code_of (Push n)) code n tt h g
+
+pub after-bnz-known : (code : ℕ) (n : ℤ) → code_of (Bnz n) < code → code < code_of Or → (code ≡ code_of Ret → ⊥) → known (pos code) n ≡ None
+after-bnz-known code n h g f = by (ltb code (code_of Ret)) refl
+  where
+    by : (b : Bool) → ltb code (code_of Ret) ≡ b → known (pos code) n ≡ None
+    by true e = unknown-code (suc (code_of (Bnz n))) (code_of Ret) code n tt h (ltb-true code (code_of Ret) e)
+    by false e = let k = ltb-false code (code_of Ret) e in unknown-code (suc (code_of Ret)) (code_of Or) code n tt (omega arith) g

@@ -1,20 +1,15 @@
 -- The kernel on words: the stack that lies in a run of words, and the effects of instructions on it.
 -- Assumes nothing.
 use mathlib.Core.Path.{◌≡◌, refl, ap, ap₂, ◌∙◌}
-use mathlib.Core.Bool.{true, false}
 use mathlib.Core.List.{List, ◌∷◌}
 use Prim.Native.Nat.{ℕ, zero, suc, ◌+◌, ◌-◌, ◌<◌, ◌≤◌}
 use native.Mathlib.Omega.{arith}
-use lib.IntN.{ℤ, pos, negsuc}
+use lib.IntN.{ℤ, pos}
 use lib.ListN.{length, get_or, set}
 use lib.Seq.{get_or-set_same, get_or-set_other}
-use lib.IntN.{nat_abs}
-use lib.Signed.{lt_z, mag}
-use borrow.Author.Tests.{ltb-true}
-use Rattle.kernel.specs.declared.Whole.TheVariants.{At, Below}
 use Rattle.handler.specs.Kernel.{Effect, ends, failed, with_value, with_values}
 use Rattle.kernel.specs.declared.Registers.{Registers}
-use Rattle.kernel.specs.Words.{lying, topped, stack_of, below, whole_of}
+use Rattle.kernel.specs.Words.{lying, topped, stack_of, below}
 
 -- ════════════════════════════════════════════════════════════════════════════════════════════
 -- Entries that lie in words
@@ -106,15 +101,3 @@ module _ (s : Registers) (w : List ℤ) where
       by zero h = refl
       by (suc zero) h = refl
       by (suc (suc d)) h = absurd (omega arith)
-
--- ════════════════════════════════════════════════════════════════════════════════════════════
--- Numbers
--- ════════════════════════════════════════════════════════════════════════════════════════════
-
-pub whole-negative : (z : ℤ) → lt_z z (pos 0) ≡ true → Below (mag z) ≡ whole_of z
-whole-negative (pos n) e = absurd (omega (arith, ltb-true n 0 e))
-whole-negative (negsuc n) e = refl
-
-pub whole-natural : (z : ℤ) → lt_z z (pos 0) ≡ false → At (nat_abs z) ≡ whole_of z
-whole-natural (pos n) e = refl
-whole-natural (negsuc n) e = cc

@@ -1,18 +1,14 @@
 -- The kernel on words, as the code has it: the topmost entry of the stack is a register, the others lie in words, bottom first.
-use Rattle.std.specs.Prelude.{ℕ, zero, suc, ◌+◌, ◌-◌, ◌*◌, ◌^◌, ◌<◌, ◌≤◌, ◌≡◌, ◌&&◌, List, [], ◌∷◌, ℤ, pos, negsuc, length, get_or, set, ltb, eqb}
-use Rattle.std.proofs.Math.Option.{Option}
+use Rattle.std.specs.Prelude.{ℕ, zero, suc, ◌+◌, ◌-◌, ◌^◌, ◌<◌, ◌≤◌, ◌≡◌, List, [], ◌∷◌, ℤ, pos, negsuc, length, get_or, ltb, eqb, Option, Result, Ok, Err}
 use Rattle.word.specs.Choose.{choose}
 use Rattle.word.specs.Wrap.{add_wrap, sub_wrap}
-use Rattle.kernel.specs.declared.Whole.{Whole}
-use Rattle.kernel.specs.declared.Whole.TheVariants.{At, Below}
-use Rattle.kernel.specs.declared.How.{How}
 use Rattle.kernel.specs.declared.Registers.{Registers}
-use Rattle.kernel.specs.declared.Stepped.{Stepped}
 use Rattle.kernel.specs.declared.Outcome as Ended
 use Rattle.kernel.specs.declared.Outcome.TheVariants as End
 use Rattle.kernel.specs.declared.Handled.{Handled}
 use Rattle.handler.specs.Kernel.{Instruction, Add, Sub, Or, Outcome, returned, denied, failed, or_word}
-use Rattle.handler.specs.Kernel.{Effect, ends, goes, effect, effect_at, Kernel, Result}
+use Rattle.handler.specs.Kernel.{Effect, ends, goes, effect, effect_at, Kernel}
+use Rattle.handler.specs.Kernel as Handler
 use Rattle.handler.specs.Space.{code_of}
 
 -- so many entries that lie in words, top first: the bottom one in word 1; word 0 counts for nothing
@@ -41,45 +37,42 @@ pub record Room (s : Registers) (words : List ℤ) : Type 0 where
   pub depth : s.depth ≤ 64
   pub size : length words ≡ 64
 
-abbrev pub whole_of : ℤ → Whole
-whole_of (pos n) = At n
-whole_of (negsuc n) = Below n
-
 -- ════════════════════════════════════════════════════════════════════════════════════════════
 -- What an instruction hands back
 -- ════════════════════════════════════════════════════════════════════════════════════════════
 
-abbrev pub ending : How → Stepped
-ending how = record { how = how; at = registers 0 0 (pos 0); address = 7; word = pos 0 }
+-- going on, or an end
+abbrev pub Step : Type 0
+Step = Result Registers Ended.Outcome
 
-abbrev pub going : Registers → Stepped
-going s = record { how = How.Goes; at = s; address = 7; word = pos 0 }
+abbrev pub going : Registers → Step
+going s = Ok s
+
+abbrev pub outcome_of : Ended.Outcome → Outcome
+outcome_of End.Returned = returned
+outcome_of End.Denied = denied
+outcome_of End.Failed = failed
 
 -- what it stands for, beside the stack's words and the row
-abbrev pub effect_by : How → Stepped → List ℤ → List ℤ → Effect
-effect_by How.Goes r words row = goes r.at.place (stack_of r.at words) (set row r.address r.word)
-effect_by How.Returned r words row = ends returned
-effect_by How.Denied r words row = ends denied
-effect_by How.Failed r words row = ends failed
+abbrev pub effect_of : Step → List ℤ → List ℤ → Effect
+effect_of (Ok s) words row = goes s.place (stack_of s words) row
+effect_of (Err o) words row = ends (outcome_of o)
 
-abbrev pub effect_of : Stepped → List ℤ → List ℤ → Effect
-effect_of r words row = effect_by r.how r words row
+-- an instruction was carried out, from these registers on a row, which it left as another
+unfoldable pub DoesOn : List ℤ → Instruction → Registers → List ℤ → Step → List ℤ → List ℤ → Type 0
+DoesOn row i s before r row' after = effect_of r after row' ≡ effect i s.place (stack_of s before) row
 
--- an instruction was carried out on a row, from these registers
-unfoldable pub DoesOn : List ℤ → Instruction → Registers → List ℤ → Stepped → List ℤ → Type 0
-DoesOn row i s before r after = effect_of r after row ≡ effect i s.place (stack_of s before) row
-
--- and on any row
-unfoldable pub Does : Instruction → Registers → List ℤ → Stepped → List ℤ → Type 0
-Does i s before r after = (row : List ℤ) → length row ≡ 7 → DoesOn row i s before r after
+-- and on any row, which it left as it was
+unfoldable pub Does : Instruction → Registers → List ℤ → Step → List ℤ → Type 0
+Does i s before r after = (row : List ℤ) → length row ≡ 7 → DoesOn row i s before r row after
 
 -- the kernel's state that the words stand for, after so many steps
 abbrev pub state : Registers → List ℤ → List ℤ → ℕ → Kernel
 state s words row steps = record { place = s.place; stack = stack_of s words; row = row; steps = steps }
 
--- the instruction, if there is one
-unfoldable pub Acts : List ℤ → Option Instruction → Registers → List ℤ → Stepped → List ℤ → Type 0
-Acts row o s before r after = effect_of r after row ≡ effect_at o (state s before row 0)
+-- the instruction, if there is one, on a row of seven words
+unfoldable pub Acts : List ℤ → Option Instruction → Registers → List ℤ → Step → List ℤ → List ℤ → Type 0
+Acts row o s before r row' after = length row ≡ 7 → effect_of r after row' ≡ effect_at o (state s before row 0)
 
 -- ════════════════════════════════════════════════════════════════════════════════════════════
 -- Parts of instructions
@@ -97,22 +90,13 @@ abbrev pub moved : Registers → ℕ → Registers
 moved s place = registers place s.depth s.top
 
 -- a jump by a word from a base: forward, or to −1
-abbrev pub jumping_from : ℕ → Whole → Registers → Stepped
-jumping_from base (At n) s = choose (ltb s.place (base + n)) (going (moved s (base + n))) (ending How.Failed)
-jumping_from base (Below n) s = choose (eqb n base) (ending How.Denied) (ending How.Failed)
+abbrev pub jumping_from : ℕ → ℤ → Registers → Step
+jumping_from base (pos n) s = choose (ltb s.place (base + n)) (going (moved s (base + n))) (Err End.Failed)
+jumping_from base (negsuc n) s = choose (eqb n base) (Err End.Denied) (Err End.Failed)
 
 -- ════════════════════════════════════════════════════════════════════════════════════════════
 -- What a handler leaves
 -- ════════════════════════════════════════════════════════════════════════════════════════════
 
-abbrev pub outcome_of : Ended.Outcome → Outcome
-outcome_of End.Returned = returned
-outcome_of End.Denied = denied
-outcome_of End.Failed = failed
-
--- of the places below a count, those below a limit have both of their words
-unfoldable pub Held : (words count limit : ℕ) → Type 0
-Held words count limit = (place : ℕ) → ltb place limit ≡ (ltb place count && ltb (2 * place + 1) words)
-
-abbrev pub result_of : Handled → Result
+abbrev pub result_of : Handled → Handler.Result
 result_of r = record { outcome = outcome_of r.outcome; row = r.cache.words; steps = r.steps }

@@ -3,18 +3,17 @@
 // stack and effects.
 #![tactic(auto)]
 
-ghost use Rattle.std.specs.Prelude.{◌≡◌, ◌≤◌, ◌<◌, ◌^◌, List, ℤ, pos, length};
+ghost use Rattle.std.specs.Prelude.{◌≡◌, ◌≤◌, ◌<◌, ◌^◌, List, ℤ, pos, length, OnErr};
 ghost use Rattle.handler.specs.Kernel.{or_word, Load, Store, Dup, Swap, Jump, Push, Bnz};
 ghost use Rattle.handler.specs.Space.{known, handle_space};
-ghost use Rattle.kernel.specs.Words.{whole_of, Room, below, ending, going, combined, folding, jumping_from};
-ghost use Rattle.kernel.specs.Words.{DoesOn, Does, Acts, Held, result_of};
+ghost use Rattle.kernel.specs.Words.{Room, below, going, combined, folding, jumping_from};
+ghost use Rattle.kernel.specs.Words.{DoesOn, Does, Acts, result_of};
 
 use handler::code::{ADD, BNZ, DUP, JUMP, LOAD, OR, PUSH, RET, STORE, SUB, SWAP};
 use policy::row::Cache;
-use word::number::Index;
 
 // How a handler ended: by Ret, by the jump to -1, or by leaving its rules.
-#[derive(Drop)]
+#[derive(Clone, Copy, PartialEq, Eq, Debug)]
 pub enum Outcome {
     Returned,
     Denied,
@@ -22,80 +21,29 @@ pub enum Outcome {
 }
 
 // What a handler leaves: its end, the rule memory and the kernel steps.
-#[derive(Drop)]
+#[derive(Clone, Copy, PartialEq, Eq, Debug)]
 pub struct Handled {
     pub outcome: Outcome,
     pub cache: Cache,
     pub steps: u64,
 }
 
-// A word as a natural number n, or as -1 - n.
-#[derive(Drop)]
-enum Whole {
-    At(u64),
-    Below(u64),
-}
-
-#[derive(Drop)]
-enum How {
-    Goes,
-    Returned,
-    Denied,
-    Failed,
-}
-
 // The kernel's registers: the place, how many entries the stack has, and the topmost of them; the others lie in words.
 #[derive(Clone, Copy)]
 struct Registers {
-    place: u64,
+    place: usize,
     depth: usize,
     top: i64,
 }
 
-// An instruction that was carried out: how, the registers then, and the one word of the rule memory that changes; address 7 says none.
-#[derive(Drop)]
-struct Stepped {
-    how: How,
-    at: Registers,
-    address: usize,
-    word: i64,
-}
+// What an instruction hands back: the registers with which the handler goes on, or its end.
+type Step = Result<Registers, Outcome>;
 
-fn sized(word: i64) -> Whole
-    ensures { result ≡ whole_of word }
-{
-    if word < 0 {
-        Whole::Below((-1 - word) as u64)
-    } else {
-        Whole::At(word as u64)
-    }
-}
-
-fn ended(how: How) -> Stepped
-    ensures { result ≡ ending how }
-{
-    let at = Registers {
-        place: 0,
-        depth: 0,
-        top: 0,
-    };
-    Stepped {
-        how,
-        at,
-        address: 7,
-        word: 0,
-    }
-}
-
-fn gone(at: Registers) -> Stepped
+// The handler goes on.
+fn gone(at: Registers) -> Step
     ensures { result ≡ going at }
 {
-    Stepped {
-        how: How::Goes,
-        at,
-        address: 7,
-        word: 0,
-    }
+    Ok(at)
 }
 
 fn or(a: i64, b: i64) -> i64
@@ -104,99 +52,87 @@ fn or(a: i64, b: i64) -> i64
     a | b
 }
 
-// Add and Sub have their codes; the third is Or.
+// Add and Sub have their codes; the third is Or. What picks the operation is a part of a lent word, so it is a code, and no closure.
 fn combine(code: u64, a: i64, b: i64) -> i64
     ensures { result ≡ combined code a b }
 {
-    if code == ADD {
-        return word::wrap::add(a, b);
+    match code {
+        ADD => word::wrap::add(a, b),
+        SUB => word::wrap::sub(a, b),
+        _ => or(a, b),
     }
-    if code == SUB {
-        return word::wrap::sub(a, b);
-    }
-    or(a, b)
 }
 
 // Add, Sub and Or.
-fn fold(code: u64, s: Registers, stack: &[i64]) -> Stepped
+fn fold(code: u64, s: Registers, stack: &[i64]) -> Step
     requires { Room s stack.now }
     ensures { Does (folding code) s stack.now result stack.now }
 {
-    let depth = s.depth;
-    if depth < 2 {
-        return ended(How::Failed);
+    if s.depth < 2 {
+        return Err(Outcome::Failed);
     }
-    let top = combine(code, s.top, stack[depth - 1]);
     gone(Registers {
         place: s.place + 1,
-        depth: depth - 1,
-        top,
+        depth: s.depth - 1,
+        top: combine(code, s.top, stack[s.depth - 1]),
     })
 }
 
 // The topmost entry goes to where the others lie.
-fn push(word: i64, s: Registers, stack: &mut [i64]) -> Stepped
+fn push(word: i64, s: Registers, stack: &mut [i64]) -> Step
     requires { Room s stack.old }
     ensures { Does (Push word) s stack.old result stack.new }
 {
-    let depth = s.depth;
-    if depth < 64 {
-        let top = s.top;
-        stack[depth] = top;
-        return gone(Registers {
-            place: s.place + 1,
-            depth: depth + 1,
-            top: word,
-        });
+    if 64 <= s.depth {
+        return Err(Outcome::Failed);
     }
-    ended(How::Failed)
+    stack[s.depth] = s.top;
+    gone(Registers {
+        place: s.place + 1,
+        depth: s.depth + 1,
+        top: word,
+    })
 }
 
-fn dup(s: Registers, stack: &mut [i64]) -> Stepped
+fn dup(s: Registers, stack: &mut [i64]) -> Step
     requires { Room s stack.old }
     ensures { Does Dup s stack.old result stack.new }
 {
     if s.depth < 1 {
-        return ended(How::Failed);
+        return Err(Outcome::Failed);
     }
     push(s.top, s, stack)
 }
 
-fn swap(s: Registers, stack: &mut [i64]) -> Stepped
+fn swap(s: Registers, stack: &mut [i64]) -> Step
     requires { Room s stack.old }
     ensures { Does Swap s stack.old result stack.new }
 {
-    let depth = s.depth;
-    if depth < 2 {
-        return ended(How::Failed);
+    if s.depth < 2 {
+        return Err(Outcome::Failed);
     }
-    let top = s.top;
-    let under = stack[depth - 1];
-    stack[depth - 1] = top;
+    let under = stack[s.depth - 1];
+    stack[s.depth - 1] = s.top;
     gone(Registers {
         place: s.place + 1,
-        depth,
         top: under,
+        ..s
     })
 }
 
-fn load(s: Registers, row: Cache) -> Stepped
+fn load(s: Registers, row: &Cache) -> Step
     requires { s.place < 2 ^ 63 }
-    ensures { (stack : List ℤ) → DoesOn row.words Load s stack result stack }
+    ensures { (stack : List ℤ) → DoesOn row.now.words Load s stack result row.now.words stack }
 {
-    let depth = s.depth;
-    if depth < 1 {
-        return ended(How::Failed);
+    if s.depth < 1 {
+        return Err(Outcome::Failed);
     }
-    let address = word::number::below(s.top, 7);
-    match address {
-        Index::At(i) => gone(Registers {
-            place: s.place + 1,
-            depth,
-            top: row.get(i),
-        }),
-        Index::Outside => ended(How::Failed),
-    }
+    let i = word::number::below(s.top, 7).ok_or(Outcome::Failed)?;
+    gone(Registers {
+        place: s.place + 1,
+        top: row.words[i],
+        ..s
+    })
 }
 
 // Without its topmost entry.
@@ -204,107 +140,87 @@ fn dropped(s: Registers, stack: &[i64]) -> Registers
     requires { Room s stack.now × (1 ≤ s.depth) }
     ensures { result ≡ below s stack.now }
 {
-    let depth = s.depth - 1;
     Registers {
-        place: s.place,
-        depth,
-        top: stack[depth],
+        depth: s.depth - 1,
+        top: stack[s.depth - 1],
+        ..s
     }
 }
 
-fn store(s: Registers, stack: &[i64]) -> Stepped
+fn store(s: Registers, stack: &[i64], row: &mut Cache) -> Step
     requires { Room s stack.now }
-    ensures { Does Store s stack.now result stack.now }
+    ensures does { DoesOn row.old.words Store s stack.now result row.new.words stack.now }
+    ensures kept { OnErr result (row.new.words ≡ row.old.words) }
 {
-    let depth = s.depth;
-    if depth < 2 {
-        return ended(How::Failed);
+    if s.depth < 2 {
+        return Err(Outcome::Failed);
     }
-    let address = word::number::below(s.top, 7);
-    match address {
-        Index::At(i) => {
-            let at = Registers {
-                place: s.place + 1,
-                depth: depth - 2,
-                top: stack[depth - 2],
-            };
-            Stepped {
-                how: How::Goes,
-                at,
-                address: i,
-                word: stack[depth - 1],
-            }
-        }
-        Index::Outside => ended(How::Failed),
-    }
+    let i = word::number::below(s.top, 7).ok_or(Outcome::Failed)?;
+    row.words[i] = stack[s.depth - 1];
+    Ok(Registers {
+        place: s.place + 1,
+        depth: s.depth - 2,
+        top: stack[s.depth - 2],
+    })
 }
 
 // A jump by a word from a base, which is 0 for Jump and the place for Bnz: it goes forward, or to -1.
-fn jump_from(base: u64, word: i64, s: Registers) -> Stepped
+fn jump_from(base: usize, word: i64, s: Registers) -> Step
     requires { base < 2 ^ 63 }
-    ensures { result ≡ jumping_from base (whole_of word) s }
+    ensures { result ≡ jumping_from base word s }
 {
-    let distance = sized(word);
-    match distance {
-        Whole::At(n) => {
-            let place = base + n;
-            if s.place < place {
-                gone(Registers {
-                    place,
-                    depth: s.depth,
-                    top: s.top,
-                })
-            } else {
-                ended(How::Failed)
-            }
-        }
-        Whole::Below(n) => {
-            if n == base {
-                ended(How::Denied)
-            } else {
-                ended(How::Failed)
-            }
-        }
+    if word < 0 {
+        return Err(if (-1 - word) as usize == base {
+            Outcome::Denied
+        } else {
+            Outcome::Failed
+        });
     }
+    let place = base + word as usize;
+    if place <= s.place {
+        return Err(Outcome::Failed);
+    }
+    gone(Registers { place, ..s })
 }
 
-fn jump(s: Registers, stack: &[i64]) -> Stepped
+fn jump(s: Registers, stack: &[i64]) -> Step
     requires { Room s stack.now }
     ensures { Does Jump s stack.now result stack.now }
 {
     if s.depth < 1 {
-        return ended(How::Failed);
+        return Err(Outcome::Failed);
     }
     jump_from(0, s.top, dropped(s, stack))
 }
 
-fn bnz(operand: i64, s: Registers, stack: &[i64]) -> Stepped
+fn bnz(operand: i64, s: Registers, stack: &[i64]) -> Step
     requires { Room s stack.now }
     ensures { Does (Bnz operand) s stack.now result stack.now }
 {
     if s.depth < 1 {
-        return ended(How::Failed);
+        return Err(Outcome::Failed);
     }
     let under = dropped(s, stack);
     if s.top == 0 {
         return gone(Registers {
             place: under.place + 1,
-            depth: under.depth,
-            top: under.top,
+            ..under
         });
     }
     jump_from(under.place, operand, under)
 }
 
-// One instruction, chosen by a tree of tests.
-fn choose(code: u64, operand: i64, s: Registers, stack: &mut [i64], row: Cache) -> Stepped
+// One instruction. The tests stand as a tree: measured faster than a match.
+#[tactic(auto, using(crate::proofs::Acting::acts, crate::proofs::Acting::acts_ret), unfolding(handler::specs::Space::known))]
+fn choose(code: u64, operand: i64, s: Registers, stack: &mut [i64], row: &mut Cache) -> Step
     requires { Room s stack.old }
-    ensures { Acts row.words (known (pos code) operand) s stack.old result stack.new }
+    ensures acts { Acts row.old.words (known (pos code) operand) s stack.old result row.new.words stack.new }
+    ensures kept { OnErr result (row.new.words ≡ row.old.words) }
 {
     if code < STORE {
         if code <= SUB {
             if code < ADD {
-                return ended(How::Failed);
+                return Err(Outcome::Failed);
             }
             return fold(code, s, stack);
         }
@@ -314,11 +230,11 @@ fn choose(code: u64, operand: i64, s: Registers, stack: &mut [i64], row: Cache) 
         if code == LOAD {
             return load(s, row);
         }
-        return ended(How::Failed);
+        return Err(Outcome::Failed);
     }
     if code <= BNZ {
         if code == STORE {
-            return store(s, stack);
+            return store(s, stack, row);
         }
         if code == JUMP {
             return jump(s, stack);
@@ -327,9 +243,9 @@ fn choose(code: u64, operand: i64, s: Registers, stack: &mut [i64], row: Cache) 
     }
     if code < OR {
         if code == RET {
-            return ended(How::Returned);
+            return Err(Outcome::Returned);
         }
-        return ended(How::Failed);
+        return Err(Outcome::Failed);
     }
     if code == OR {
         return fold(code, s, stack);
@@ -340,36 +256,26 @@ fn choose(code: u64, operand: i64, s: Registers, stack: &mut [i64], row: Cache) 
     if code == SWAP {
         return swap(s, stack);
     }
-    ended(How::Failed)
+    Err(Outcome::Failed)
 }
 
 // The instruction that two words stand for.
-fn act(code: i64, operand: i64, s: Registers, stack: &mut [i64], row: Cache) -> Stepped
+fn act(code: i64, operand: i64, s: Registers, stack: &mut [i64], row: &mut Cache) -> Step
     requires { Room s stack.old }
-    ensures { Acts row.words (known code operand) s stack.old result stack.new }
+    ensures acts { Acts row.old.words (known code operand) s stack.old result row.new.words stack.new }
+    ensures kept { OnErr result (row.new.words ≡ row.old.words) }
 {
     choose(word::wrap::to_bits(code), operand, s, stack, row)
 }
 
-// How many instructions, of so many, a space of so many words holds: each takes two.
-fn held(words: usize, count: usize) -> u64
-    ensures { Held words count result }
-{
-    let pairs = words / 2;
-    if pairs < count {
-        pairs as u64
-    } else {
-        count as u64
-    }
-}
-
 // Runs the handler on a stack of 64 words, which is empty, over the rule memory, whatever the words. Every instruction goes forward, so
-// that the place alone bounds the run. The word is changed in its place: by `set` all seven would be copied, at each Load too.
+// that the place alone bounds the run. The rule memory is lent and its word changed in its place: by `set` all seven would be copied.
 fn go(space: &[i64], count: usize, stack: &mut [i64], cache: Cache) -> Handled
     requires { length stack.old ≡ 64 }
     ensures { result_of result ≡ handle_space space.now count cache.words }
 {
-    let limit = held(space.len(), count);
+    // So many of the instructions does the space hold: each takes two words.
+    let limit = (space.len() / 2).min(count);
     let mut at = Registers {
         place: 0,
         depth: 0,
@@ -378,34 +284,27 @@ fn go(space: &[i64], count: usize, stack: &mut [i64], cache: Cache) -> Handled
     let mut row = cache;
     let mut steps: u64 = 0;
     while at.place < limit {
-        let i = at.place as usize;
-        let r = act(space[2 * i], space[2 * i + 1], at, stack, row);
-        let how = r.how;
-        match how {
-            How::Goes => {
-                let address = r.address;
-                let word = r.word;
-                if address < 7 {
-                    row.words[address] = word;
-                }
-                let next = r.at;
+        match act(
+            space[2 * at.place],
+            space[2 * at.place + 1],
+            at,
+            stack,
+            &mut row,
+        ) {
+            Ok(next) => {
                 at = next;
                 steps += 1;
             }
-            How::Returned => return Handled {
-                outcome: Outcome::Returned,
-                cache: row,
-                steps: steps + 1,
-            },
-            How::Denied => return Handled {
-                outcome: Outcome::Denied,
-                cache: row,
-                steps: steps + 1,
-            },
-            How::Failed => return Handled {
+            // Ret and the jump to -1 are steps, what fails is none.
+            Err(Outcome::Failed) => return Handled {
                 outcome: Outcome::Failed,
                 cache: row,
                 steps,
+            },
+            Err(outcome) => return Handled {
+                outcome,
+                cache: row,
+                steps: steps + 1,
             },
         }
     }

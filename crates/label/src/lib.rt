@@ -2,13 +2,12 @@
 #![tactic(auto)]
 
 ghost use Rattle.std.specs.Prelude.{◌≡◌, pos};
+ghost use Rattle.std.specs.Result.{result_ok};
 ghost use Rattle.label.specs.Label as Labels;
 ghost use Rattle.label.specs.Word.{stored, low_label};
 
-use word::number::Natural;
-
 // A label of document 01: bit i is principal i.
-#[derive(Clone, Copy)]
+#[derive(Clone, Copy, Debug, PartialEq, Eq)]
 pub struct Label(pub u32);
 
 impl Label {
@@ -29,41 +28,37 @@ impl Label {
         (self.0 | other.0) == other.0
     }
 
-    // The word that stores this label.
-    pub fn word(self) -> i64
-        ensures { result ≡ pos self.0 }
-    {
-        self.0 as i64
-    }
-
     // The label in a word that is known to store one: the lowest bits, with no test.
     pub fn low(word: i64) -> Label
         ensures { result.0 ≡ low_label word }
     {
         Label((word::wrap::to_bits(word) % 4294967296) as u32)
     }
+}
 
-    // The label that a word stores, if it is one.
-    pub fn of_word(word: i64) -> Stored
-        ensures { result ≡ stored word }
-    {
-        let number = word::number::unsigned(word);
-        match number {
-            Natural::Negative => Stored::Nothing,
-            Natural::Of(n) => {
-                if n < 4294967296 {
-                    Stored::Of(Label(n as u32))
-                } else {
-                    Stored::Nothing
-                }
-            }
-        }
+impl From<Label> for i64 {
+    ghost from_gives = { λ label word. word ≡ pos label.0 };
+
+    // The word that stores this label.
+    fn from(label: Label) -> i64 {
+        i64::from(label.0)
     }
 }
 
-// What a word stores: a label, or nothing where it is outside 0 to 2^32 - 1.
-#[derive(Drop)]
-pub enum Stored {
-    Of(Label),
-    Nothing,
+// What a word stores that is outside 0 to 2^32 - 1.
+#[derive(Clone, Copy, Debug, PartialEq, Eq)]
+pub struct NoLabel;
+
+impl TryFrom<i64> for Label {
+    type Error = NoLabel;
+
+    ghost try_from_gives = { λ word label. result_ok label ≡ stored word };
+
+    // The label that a word stores, if it is one.
+    fn try_from(word: i64) -> Result<Label, NoLabel> {
+        match u32::try_from(word) {
+            Ok(n) => Ok(Label(n)),
+            Err(_) => Err(NoLabel),
+        }
+    }
 }

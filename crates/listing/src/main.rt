@@ -2,7 +2,6 @@
 // and the place to standard error.
 #![tactic(auto)]
 
-use assembly::Written;
 use std::io;
 
 fn main(rt: HostRuntime) -> io::Result<()> {
@@ -10,9 +9,8 @@ fn main(rt: HostRuntime) -> io::Result<()> {
     let mut sheet = [0u8; 36865];
     let count = input::read_full(&mut rt.stdin(), &mut sheet)?;
     let mut text = [0u8; 106496];
-    let written = assembly::list(&sheet[..count], &mut text);
-    match written {
-        Written::Length(n) => rt.write_all(word::part::first(&text, n)),
-        Written::Refused(r) => eprintln!(rt; "refused {} {}", r.code, r.position),
+    match assembly::list(&sheet[..count], &mut text) {
+        Ok(n) => rt.write_all(word::part::first(&text, n)),
+        Err(r) => eprintln!(rt; "{r}"),
     }
 }

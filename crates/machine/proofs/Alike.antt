@@ -1,7 +1,7 @@
 -- Rulers that answer alike run alike: same stop and state, and the same of whatever each step changes.
 -- Assumes nothing.
+use Rattle.std.proofs.Common.{None, Option, Some}
 use mathlib.Core.Path.{◌≡◌, refl, sym, ap, ◌∙◌}
-use mathlib.Core.Option.{Option, none, some}
 use mathlib.Core.Bool.{Bool, true, false}
 use mathlib.Core.List.{List}
 use Prim.Native.Nat.{ℕ, zero, suc}
@@ -9,7 +9,8 @@ use lib.ListN.{length}
 use Rattle.program.specs.declared.Command.{Command}
 use Rattle.machine.specs.Rule.{Verdict, Policy, Ruler, rules}
 use Rattle.machine.specs.Environment.{Environment}
-use Rattle.machine.specs.State.{State, Stop}
+use Rattle.machine.specs.State.{State}
+use Rattle.machine.specs.declared.Stop.{Stop}
 use Rattle.machine.specs.Step.{Outcome, stopped, stepped, Request, halt, ask, request, key_of, decide, consult, execute}
 use Rattle.machine.specs.Run.{at_end, step, asked, Result, finish, end_barrier, run, along, Same}
 use Rattle.machine.proofs.Step.{step-all, step-at, step-none}
@@ -54,8 +55,8 @@ module _ {Q R : Type 0} (σ : Ruler Q) (ρ : Ruler R) (env : Environment) (cs : 
 
   -- the end line goes out, or is held back
   finish-alike : (s : State) (u : Q) (v : R) (b : Option Stop) → Same (finish b s u) (finish b s v)
-  finish-alike s u v none = record { stop = refl; state = refl }
-  finish-alike s u v (some x) = record { stop = refl; state = refl }
+  finish-alike s u v None = record { stop = refl; state = refl }
+  finish-alike s u v (Some x) = record { stop = refl; state = refl }
 
   end-alike : (fuel : ℕ) (s : State) (u : Q) (v : R) → at_end (length cs) s.pc.number ≡ true
       → Same (run σ env cs fuel s u) (run ρ env cs fuel s v)

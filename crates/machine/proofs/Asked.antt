@@ -16,7 +16,8 @@ use Rattle.program.specs.Command.{supplies, arguments_of, results_of}
 use Rattle.machine.specs.Atom.{Atom, Entry, value, frame}
 use Rattle.machine.specs.Rule.{Input, present, missing, Key}
 use Rattle.machine.specs.Environment.{Environment}
-use Rattle.machine.specs.State.{State, overflow, stack_full}
+use Rattle.machine.specs.State.{State}
+use Rattle.machine.specs.declared.Stop.TheVariants.{Overflow, StackFull}
 use Rattle.machine.specs.Stopped.{denies}
 use Rattle.machine.specs.Step.{Outcome, stopped, stepped, Request, halt, ask, of, making, outputting, calling, request}
 use Rattle.machine.specs.Step.{key_of}
@@ -89,7 +90,7 @@ module _ (env : Environment) (s : State) (h : LabelsInRange s) where
   making-asks c make marked =
       values-asks s h c _ (λ a b rest ha hb. (
         marked a b ha hb,
-        λ q r. provided-all Roomy (is_signed 64 (make a.number b.number)) overflow _ (λ e. tt) (λ e. refl),
+        λ q r. provided-all Roomy (is_signed 64 (make a.number b.number)) Overflow _ (λ e. tt) (λ e. refl),
       ))
 
   outputting-asks : (c : Command) (page : ℤ) → ((a : Atom) → InRange a.label → WellMarked (key_of c s (of a) missing missing))
@@ -113,7 +114,7 @@ module _ (env : Environment) (s : State) (h : LabelsInRange s) where
   request-asks Output = outputting-asks Output _ (λ a ha. record { pc = p; input1 = ha; input2 = tt; input3 = tt })
   request-asks (Push n) = (
     record { pc = p; input1 = tt; input2 = tt; input3 = tt },
-    λ q r. provided-all Roomy (ltb (length s.stack) stack_limit) stack_full _ (λ e. tt) (λ e. refl),
+    λ q r. provided-all Roomy (ltb (length s.stack) stack_limit) StackFull _ (λ e. tt) (λ e. refl),
   )
   request-asks Load =
       value-asks s h Load _ (λ a rest ha hs. cell-asks s h Load a.number _ (λ i b hb.

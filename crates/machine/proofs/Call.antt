@@ -16,7 +16,8 @@ use Rattle.program.specs.declared.Command.TheVariants.{Add, Sub, Pop, Output, Pu
 use Rattle.program.specs.Command.{arguments_of, results_of}
 use Rattle.machine.specs.Atom.{Atom, Entry, value, frame}
 use Rattle.machine.specs.Rule.{Policy}
-use Rattle.machine.specs.State.{State, overflow, stack_full}
+use Rattle.machine.specs.State.{State}
+use Rattle.machine.specs.declared.Stop.TheVariants.{Overflow, StackFull}
 use Rattle.machine.specs.Environment.{Environment}
 use Rattle.machine.specs.Step.{Request, stack_limit, atom, making, outputting}
 use Rattle.machine.specs.Step.{with_value, calling, request, execute}
@@ -79,7 +80,7 @@ module _ (owes : Bool) (a : Atom) (rest : List Entry) where
     making-goes : (make : ℤ → ℤ → ℤ) → Goes (making s make)
     making-goes make =
         values-all Goes s.stack _ tt (λ b c below e p r.
-        provided-all (Gives After) (is_signed 64 (make b.number c.number)) overflow _
+        provided-all (Gives After) (is_signed 64 (make b.number c.number)) Overflow _
         (λ t. inl (over _ (under-value (under-value u e) refl))) (λ t. tt))
 
     outputting-goes : (env : Environment) (page : ℤ) → Goes (outputting env s page)
@@ -98,7 +99,7 @@ module _ (owes : Bool) (a : Atom) (rest : List Entry) where
     request-goes env Pop = value-goes _ (λ b below v p r. inl v) s.stack u
     request-goes env Output = outputting-goes env (pos 0)
     request-goes env (Push n) = λ p r.
-        provided-all (Gives After) (ltb (length s.stack) stack_limit) stack_full _ (λ t. inl (over _ u)) (λ t. tt)
+        provided-all (Gives After) (ltb (length s.stack) stack_limit) StackFull _ (λ t. inl (over _ u)) (λ t. tt)
     request-goes env Load =
         value-goes _ (λ b below v. cell-all Goes s.memory b.number _ tt (λ i c e at p r. inl (over _ v))) s.stack u
     request-goes env Store =

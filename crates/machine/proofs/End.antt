@@ -19,7 +19,8 @@ use Rattle.program.specs.declared.Command.{Command}
 use Rattle.machine.specs.Atom.{Line, end_line}
 use Rattle.machine.specs.Rule.{Ruler, rules, fixed, standard}
 use Rattle.machine.specs.Environment.{Environment}
-use Rattle.machine.specs.State.{State, Stop, start, stop_number}
+use Rattle.machine.specs.State.{State, start, stop_number}
+use Rattle.machine.specs.declared.Stop.{Stop}
 use Rattle.machine.specs.Run.{Result, run}
 use Rattle.machine.specs.Claim.{view, keep, Start, OneStartsOther, Views}
 use Rattle.machine.specs.End.{is_end, has_end, closing, Closes, Whole, Tells, Complete, Means, Meant}

@@ -11,7 +11,8 @@ use Rattle.program.specs.declared.Command.{Command}
 use Rattle.machine.specs.Atom.{Atom, Entry, value}
 use Rattle.machine.specs.Rule.{missing, Verdict, denied, allowed, Policy}
 use Rattle.machine.specs.Environment.{Environment}
-use Rattle.machine.specs.State.{State, overflow}
+use Rattle.machine.specs.State.{State}
+use Rattle.machine.specs.declared.Stop.TheVariants.{Overflow}
 use Rattle.machine.specs.Step.{Outcome, provided, of, atom, next, key_of, decide, making, request, execute}
 use Rattle.machine.specs.Run.{step}
 use Rattle.machine.specs.Stopped.{Makes, sum, difference, number}
@@ -29,7 +30,7 @@ makes-request env c s make difference = refl
 made-asked : (π : Policy) (env : Environment) (c : Command) (s : State) (make : ℤ → ℤ → ℤ) (a b : Atom) (rest : List Entry) (v : Verdict)
     → Makes c make → s.stack ≡ value a ∷ value b ∷ rest → π (key_of c s (of a) (of b) missing) ≡ v
     → let n = make a.number b.number in
-    execute π env c s ≡ decide v (λ p r. provided (is_signed 64 n) overflow (next s p (value (atom n r) ∷ rest)))
+    execute π env c s ≡ decide v (λ p r. provided (is_signed 64 n) Overflow (next s p (value (atom n r) ∷ rest)))
 unfolding execute
 made-asked π env c s make a b rest v makes found e = rw (makes-request env c s make makes, found, e)
 
@@ -37,7 +38,7 @@ pub sums-exact : Sums
 sums-exact π env cs s c m at =
     let n = number m in
     let key = key_of c s (of m.top) (of m.next) missing in
-    let k : ℕ → ℕ → Bool → Outcome = λ p r b. provided b overflow (next s p (value (atom n r) ∷ m.rest)) in
+    let k : ℕ → ℕ → Bool → Outcome = λ p r b. provided b Overflow (next s p (value (atom n r) ∷ m.rest)) in
     let asked : (v : Verdict) → π key ≡ v → step π env cs s ≡ decide v (λ p r. k p r (is_signed 64 n)) =
     λ v e. step-at env s cs c at π ∙ made-asked π env c s m.make m.top m.next m.rest v m.makes m.found e in
     record {

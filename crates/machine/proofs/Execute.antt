@@ -1,8 +1,8 @@
 -- One command: what it changes, and why it is stopped.
 -- Assumes nothing.
+use Rattle.std.proofs.Common.{Some}
 use mathlib.Core.Path.{◌≡◌, refl, ap, ◌∙◌}
 use mathlib.Core.Bool.{true, false}
-use mathlib.Core.Option.{some}
 use mathlib.Core.List.{List, [], ◌∷◌, ◌++◌, append-nil}
 use Prim.Native.Nat.{ℕ, suc, ◌+◌, ◌≤◌}
 use native.Mathlib.Omega.{arith}
@@ -18,8 +18,9 @@ use Rattle.program.specs.Command.{opcode, push, arguments_of, results_of}
 use Rattle.machine.specs.Atom.{Atom, Entry, Line, number_line}
 use Rattle.machine.specs.Rule.{Verdict, denied, allowed, Policy}
 use Rattle.machine.specs.Environment.{Environment, barrier}
-use Rattle.machine.specs.State.{State, Stop, value_missing, frame_missing, wrong_return, address_outside, denial}
-use Rattle.machine.specs.State.{overflow, stack_full}
+use Rattle.machine.specs.State.{State}
+use Rattle.machine.specs.declared.Stop.{Stop}
+use Rattle.machine.specs.declared.Stop.TheVariants.{ValueMissing, FrameMissing, WrongReturn, AddressOutside, Denial, Overflow, StackFull}
 use Rattle.machine.specs.Step.{Outcome, stopped, stepped, Request, halt, ask, stack_limit, unless_barred, printing, key_of, decide}
 use Rattle.machine.specs.Step.{consult, making, outputting, calling, request, execute}
 use Rattle.machine.specs.Stopped.{Denied, Makes, sum, difference, Overflows, Writes, plain, to, Offers}
@@ -37,14 +38,14 @@ pub record Change (env : Environment) (s t : State) : Type 0 where
 
 -- why a command is stopped
 pub data Cause (π : Policy) (env : Environment) (c : Command) (s : State) : Stop → Type 0 where
-  no_value : request env c s ≡ halt value_missing → Cause π env c s value_missing
-  no-frame : request env c s ≡ halt frame_missing → Cause π env c s frame_missing
-  no_return : request env c s ≡ halt wrong_return → Cause π env c s wrong_return
-  no_cell : request env c s ≡ halt address_outside → Cause π env c s address_outside
-  no-leave : Denied π c s (request env c s) → Cause π env c s denial
-  no_number : Overflows c s → Cause π env c s overflow
-  no-env : opcode c ≡ push → stack_limit ≤ length s.stack → Cause π env c s stack_full
-  no_line : {x : Stop} (l : Line) → Offers π s l c → Barred env (length s.lines) l (some x) → Cause π env c s x
+  no_value : request env c s ≡ halt ValueMissing → Cause π env c s ValueMissing
+  no-frame : request env c s ≡ halt FrameMissing → Cause π env c s FrameMissing
+  no_return : request env c s ≡ halt WrongReturn → Cause π env c s WrongReturn
+  no_cell : request env c s ≡ halt AddressOutside → Cause π env c s AddressOutside
+  no-leave : Denied π c s (request env c s) → Cause π env c s Denial
+  no_number : Overflows c s → Cause π env c s Overflow
+  no-env : opcode c ≡ push → stack_limit ≤ length s.stack → Cause π env c s StackFull
+  no_line : {x : Stop} (l : Line) → Offers π s l c → Barred env (length s.lines) l (Some x) → Cause π env c s x
 
 module _ (π : Policy) (env : Environment) (c : Command) (s : State) where
   -- a command is stopped for a cause, or it is carried out and changes what it may

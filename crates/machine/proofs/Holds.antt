@@ -23,7 +23,8 @@ use Rattle.machine.specs.Atom.{Atom, Entry, value, frame, Line, number_line, end
 use Rattle.machine.specs.Rule.{Input, present, missing, Verdict, denied, allowed, Policy, Ruler, rules, standard}
 use Rattle.machine.specs.Rule.{label_of, allowed_if, rule}
 use Rattle.machine.specs.Environment.{Environment}
-use Rattle.machine.specs.State.{State, overflow, stack_full}
+use Rattle.machine.specs.State.{State}
+use Rattle.machine.specs.declared.Stop.TheVariants.{Overflow, StackFull}
 use Rattle.machine.specs.Step.{Request, halt, ask, stack_limit, with_value, with_values, with_frame, with_cell, atom}
 use Rattle.machine.specs.Step.{branch, key_of, decide, consult, making, outputting, calling, request, execute}
 use Rattle.machine.specs.Run.{step, closed, run}
@@ -111,7 +112,7 @@ module _ (N : ℤ → Type 0) (L : ℕ → Type 0) (s : State) (h : Holds N L s)
         g.1.0.1,
         tt,
         λ p r hp hr.
-            provided-all (Gives (Holds N L)) (is_signed 64 (number m)) overflow _
+            provided-all (Gives (Holds N L)) (is_signed 64 (number m)) Overflow _
             (λ t. moved (new.following, hp) ((new.made m (test-signed 64 (number m) t), hr), g.1.1))
             (λ t. tt),
       ))
@@ -150,7 +151,7 @@ module _ (N : ℤ → Type 0) (L : ℕ → Type 0) (s : State) (h : Holds N L s)
     tt,
     tt,
     λ p r hp hr.
-        provided-all (Gives (Holds N L)) (ltb (length s.stack) stack_limit) stack_full _
+        provided-all (Gives (Holds N L)) (ltb (length s.stack) stack_limit) StackFull _
         (λ e. moved (new.following, hp) ((new.pushed n refl, hr), h.stack))
         (λ e. tt),
   )

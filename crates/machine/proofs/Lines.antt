@@ -13,7 +13,8 @@ use Rattle.program.specs.declared.Command.TheVariants.{Add, Sub, Pop, Output, Pu
 use Rattle.word.specs.Exact.{is_signed}
 use Rattle.machine.specs.Atom.{Line, number_line, end_line}
 use Rattle.machine.specs.Rule.{Ruler, rules}
-use Rattle.machine.specs.State.{State, overflow, stack_full}
+use Rattle.machine.specs.State.{State}
+use Rattle.machine.specs.declared.Stop.TheVariants.{Overflow, StackFull}
 use Rattle.machine.specs.Environment.{Environment, cleared}
 use Rattle.machine.specs.Step.{Request, stack_limit, making, outputting, calling, request}
 use Rattle.machine.specs.Step.{execute}
@@ -36,7 +37,7 @@ module _ (P : Line → Type 0) where
     making-lines : (make : ℤ → ℤ → ℤ) → Keeps (making s make)
     making-lines make =
         values-all Keeps s.stack _ tt (λ a b rest e p r.
-        provided-all (Gives Lines) (is_signed 64 (make a.number b.number)) overflow _ (λ t. h) (λ t. tt))
+        provided-all (Gives Lines) (is_signed 64 (make a.number b.number)) Overflow _ (λ t. h) (λ t. tt))
 
     -- of a line that goes out
     outputting-lines : (env : Environment) (page : ℤ)
@@ -58,7 +59,7 @@ module _ (P : Line → Type 0) where
     request-lines env Sub f = making-lines ◌-ℤ◌
     request-lines env Pop f = value-all Keeps s.stack _ tt (λ a rest e p r. h)
     request-lines env Output f = outputting-lines env _ (f _ plain)
-    request-lines env (Push n) f = λ p r. provided-all (Gives Lines) (ltb (length s.stack) stack_limit) stack_full _ (λ t. h) (λ t. tt)
+    request-lines env (Push n) f = λ p r. provided-all (Gives Lines) (ltb (length s.stack) stack_limit) StackFull _ (λ t. h) (λ t. tt)
     request-lines env Load f =
         value-all Keeps s.stack _ tt (λ a rest e. cell-all Keeps s.memory a.number _ tt (λ i c g at p r. h))
     request-lines env Store f =

@@ -1,9 +1,9 @@
 -- Runs: why they stop, how many steps they take, that fuel adds up, and what they leave of lines, cells and stack.
 -- Assumes nothing.
+use Rattle.std.proofs.Common.{None, Some}
 use mathlib.Core.Path.{◌≡◌, refl, ap, ◌∙◌}
 use mathlib.Core.Logic.{◌≢◌, inl, inr}
 use mathlib.Core.Bool.{true, false}
-use mathlib.Core.Option.{some, none}
 use mathlib.Core.List.{List, [], ◌∷◌, ◌++◌, append-nil, append_assoc}
 use Prim.Native.Nat.{ℕ, zero, suc, ◌+◌, ◌≤◌, ◌<◌}
 use native.Mathlib.Nat.{zero-add, suc-add}
@@ -16,7 +16,9 @@ use Rattle.program.specs.declared.Command.{Command}
 use Rattle.machine.specs.Atom.{Line, end_line}
 use Rattle.machine.specs.Rule.{Policy, Ruler, rules}
 use Rattle.machine.specs.Environment.{Environment}
-use Rattle.machine.specs.State.{State, Stop, fuel_spent, pc_outside, stop_number}
+use Rattle.machine.specs.State.{State, stop_number}
+use Rattle.machine.specs.declared.Stop.{Stop}
+use Rattle.machine.specs.declared.Stop.TheVariants.{FuelSpent, PcOutside}
 use Rattle.machine.specs.Step.{Outcome, stopped, stepped, stack_limit, execute}
 use Rattle.machine.specs.Run.{at_end, step, asked, Result, result, closed, finish, end_barrier, run, along, spent, continue}
 use Rattle.machine.specs.Stopped.{Counted, CommandAt, NoCommandAt, Stopped}
@@ -32,7 +34,7 @@ use Rattle.machine.proofs.Execute.{Sound, execute-sound}
 
 -- why a step is stopped
 data Halt (π : Policy) (env : Environment) (cs : List Command) (s : State) : Stop → Type 0 where
-  outside : NoCommandAt cs s.pc.number → Halt π env cs s pc_outside
+  outside : NoCommandAt cs s.pc.number → Halt π env cs s PcOutside
   inside : {x : Stop} (c : Command) → CommandAt cs s.pc.number c → Cause π env c s x → Halt π env cs s x
 
 module _ (π : Policy) (env : Environment) (cs : List Command) where
@@ -97,7 +99,7 @@ not-at-end n (negsuc i) e f = let z : ◌≡◌ {A = ℕ} 0 1 = cc in omega arit
 module _ {R : Type 0} (ρ : Ruler R) (env : Environment) (cs : List Command) where
   -- an end line that is held back
   end-stopped : (v : R) (s : State) (x : Stop) → s.pc.number ≡ pos (length cs)
-      → Barred env (length s.lines) (end_line s.pc.label) (some x) → Stopped (rules ρ v) env cs s x
+      → Barred env (length s.lines) (end_line s.pc.label) (Some x) → Stopped (rules ρ v) env cs s x
   end-stopped v s x e (full f g) = (end_line s.pc.label, inr (e, refl), f, g)
   end-stopped v s x e (Barrier.closed f) = (end_line s.pc.label, inr (e, refl), f)
 
@@ -144,7 +146,7 @@ module _ {R : Type 0} (ρ : Ruler R) (env : Environment) (cs : List Command) whe
 
   -- one without allowance, one whose next command is stopped, one that takes a step
   module _ (s : State) (u : R) (e : at_end (length cs) s.pc.number ≡ false) where
-    pub run-spent : run ρ env cs 0 s u ≡ result fuel_spent s u
+    pub run-spent : run ρ env cs 0 s u ≡ result FuelSpent s u
     unfolding run
     run-spent = rw e
 
@@ -195,7 +197,7 @@ module _ {R : Type 0} (ρ : Ruler R) (env : Environment) (cs : List Command) whe
 
   -- what every change keeps, and the end line, a run keeps
   run-change : (P : State → Type 0) → ((s t : State) → Change env s t → P s → P t)
-      → ((s : State) → end_barrier env s ≡ none → P s → P (closed s))
+      → ((s : State) → end_barrier env s ≡ None → P s → P (closed s))
       → (fuel : ℕ) (s : State) (u : R) → P s → P (run ρ env cs fuel s u).state
   run-change P f g =
       run-keeps ρ env cs P (λ s t u at e h. f s t (stepped-explained (rules ρ u) env cs e) h) (λ s at e h. g s e h)
@@ -208,7 +210,7 @@ module _ {R : Type 0} (ρ : Ruler R) (env : Environment) (cs : List Command) whe
           → (more : List Line) × (t.lines ≡ s.lines ++ more)
       go v t c (ls, e) = (ls ++ c.lines.0, rw (c.lines.1, e, append_assoc))
 
-      close : (v : State) → end_barrier env v ≡ none → (more : List Line) × (v.lines ≡ s.lines ++ more)
+      close : (v : State) → end_barrier env v ≡ None → (more : List Line) × (v.lines ≡ s.lines ++ more)
           → (more : List Line) × ((closed v).lines ≡ s.lines ++ more)
       close v f (ls, e) = (ls ++ (end_line v.pc.label ∷ []), rw (e, append_assoc))
 

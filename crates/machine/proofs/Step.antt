@@ -1,16 +1,18 @@
 -- Reasoning about steps and runs: properties of whatever state a step gives, and of what the ruler keeps. What every step keeps, a run
 -- keeps.
 -- Assumes nothing.
+use Rattle.std.proofs.Common.{None, Option, Some}
 use mathlib.Core.Path.{◌≡◌, refl}
 use mathlib.Core.Bool.{Bool, true, false}
 use mathlib.Core.List.{List}
-use mathlib.Core.Option.{Option, none, some}
 use Prim.Native.Nat.{ℕ, zero, suc}
 use lib.ListN.{length}
 use Rattle.program.specs.declared.Command.{Command}
 use Rattle.machine.specs.Rule.{Key, Verdict, denied, allowed, Policy, Ruler, rules, fixed, standard}
 use Rattle.machine.specs.Environment.{Environment}
-use Rattle.machine.specs.State.{State, Stop, end, fuel_spent, pc_outside}
+use Rattle.machine.specs.State.{State}
+use Rattle.machine.specs.declared.Stop.{Stop}
+use Rattle.machine.specs.declared.Stop.TheVariants.{End, FuelSpent, PcOutside}
 use Rattle.machine.specs.Step.{Outcome, stopped, stepped, Request, halt, ask, key_of, decide, consult, execute, request}
 use Rattle.machine.specs.Run.{command_at, execute_some, step, asked_by, asked_some, asked, at_end, Result, result, after, closed}
 use Rattle.machine.specs.Run.{finish, end_barrier, unless_end, run}
@@ -40,18 +42,18 @@ consult-leaves P π c s (ask l1 l2 l3 k) g = go (π (key_of c s l1 l2 l3))
 -- a step and what it leaves of a ruler, by cases: the command at the place, or there is none
 pub step_both : {R : Type 0} (ρ : Ruler R) (π : Policy) (env : Environment) (s : State) (u : R) (P : Outcome → R → Type 0) (cs : List Command)
     → ((c : Command) → CommandAt cs s.pc.number c → P (execute π env c s) (asked_by ρ c s u (request env c s)))
-    → (NoCommandAt cs s.pc.number → P (stopped pc_outside) u)
+    → (NoCommandAt cs s.pc.number → P (stopped PcOutside) u)
     → P (step π env cs s) (asked ρ env cs s u)
 unfolding step asked
 step_both ρ π env s u P cs f g = go (command_at cs s.pc.number) refl
   where
     go : (o : Option Command) → command_at cs s.pc.number ≡ o → P (execute_some π env o s) (asked_some ρ env o s u)
-    go none e = g e
-    go (some c) e = f c e
+    go None e = g e
+    go (Some c) e = f c e
 
 pub step-all : (π : Policy) (env : Environment) (s : State) (P : Outcome → Type 0) (cs : List Command)
     → ((c : Command) → CommandAt cs s.pc.number c → P (execute π env c s))
-    → (NoCommandAt cs s.pc.number → P (stopped pc_outside)) → P (step π env cs s)
+    → (NoCommandAt cs s.pc.number → P (stopped PcOutside)) → P (step π env cs s)
 step-all π env s P cs f g = step_both (fixed π) π env s tt (λ o u. P o) cs f g
 
 -- a step carries out the command at the place, which asks the ruler
@@ -66,7 +68,7 @@ module _ (env : Environment) (s : State) (cs : List Command) (c : Command) (at :
 
 -- where there is none it is stopped, and nothing is asked
 module _ (env : Environment) (s : State) (cs : List Command) (out : NoCommandAt cs s.pc.number) where
-  pub step-none : (π : Policy) → step π env cs s ≡ stopped pc_outside
+  pub step-none : (π : Policy) → step π env cs s ≡ stopped PcOutside
   unfolding step
   step-none π = rw out
 
@@ -77,11 +79,11 @@ module _ (env : Environment) (s : State) (cs : List Command) (out : NoCommandAt 
 -- induction over runs: what holds of a run that has ended, or whose end line is held back, that has no fuel or that is stopped, and of one
 -- that takes a step where it holds of the rest
 module _ {R : Type 0} (ρ : Ruler R) (env : Environment) (cs : List Command) (Q : ℕ → State → R → Result R → Type 0)
-    (ends : (fuel : ℕ) (s : State) (u : R) → at_end (length cs) s.pc.number ≡ true → end_barrier env s ≡ none
-    → Q fuel s u (result end (closed s) u))
-    (bars : (fuel : ℕ) (s : State) (u : R) (x : Stop) → at_end (length cs) s.pc.number ≡ true → end_barrier env s ≡ some x
+    (ends : (fuel : ℕ) (s : State) (u : R) → at_end (length cs) s.pc.number ≡ true → end_barrier env s ≡ None
+    → Q fuel s u (result End (closed s) u))
+    (bars : (fuel : ℕ) (s : State) (u : R) (x : Stop) → at_end (length cs) s.pc.number ≡ true → end_barrier env s ≡ Some x
     → Q fuel s u (result x s u))
-    (spends : (s : State) (u : R) → at_end (length cs) s.pc.number ≡ false → Q zero s u (result fuel_spent s u))
+    (spends : (s : State) (u : R) → at_end (length cs) s.pc.number ≡ false → Q zero s u (result FuelSpent s u))
     (stops : (fuel : ℕ) (s : State) (u : R) (x : Stop) → at_end (length cs) s.pc.number ≡ false
     → step (rules ρ u) env cs s ≡ stopped x → Q (suc fuel) s u (result x s (asked ρ env cs s u)))
     (goes : (fuel : ℕ) (s t : State) (u : R) (r : Result R) → at_end (length cs) s.pc.number ≡ false
@@ -95,8 +97,8 @@ module _ {R : Type 0} (ρ : Ruler R) (env : Environment) (cs : List Command) (Q 
 
   finish-all : (fuel : ℕ) (s : State) (u : R) → at_end (length cs) s.pc.number ≡ true
       → (b : Option Stop) → end_barrier env s ≡ b → Q fuel s u (finish b s u)
-  finish-all fuel s u e none f = ends fuel s u e f
-  finish-all fuel s u e (some x) f = bars fuel s u x e f
+  finish-all fuel s u e None f = ends fuel s u e f
+  finish-all fuel s u e (Some x) f = bars fuel s u x e f
 
   unless-all : (fuel : ℕ) (s : State) (u : R) (r : Result R) (b : Bool) → at_end (length cs) s.pc.number ≡ b
       → (b ≡ false → Q fuel s u r) → Q fuel s u (unless_end env b s u r)
@@ -111,7 +113,7 @@ module _ {R : Type 0} (ρ : Ruler R) (env : Environment) (cs : List Command) (Q 
 -- what every step keeps, and the end line, a run keeps
 pub run-keeps : {R : Type 0} (ρ : Ruler R) (env : Environment) (cs : List Command) (P : State → Type 0)
     → ((s t : State) (u : R) → at_end (length cs) s.pc.number ≡ false → step (rules ρ u) env cs s ≡ stepped t → P s → P t)
-    → ((s : State) → at_end (length cs) s.pc.number ≡ true → end_barrier env s ≡ none → P s → P (closed s))
+    → ((s : State) → at_end (length cs) s.pc.number ≡ true → end_barrier env s ≡ None → P s → P (closed s))
     → (fuel : ℕ) (s : State) (u : R) → P s → P (run ρ env cs fuel s u).state
 run-keeps ρ env cs P keeps closes =
     run-induction ρ env cs (λ fuel s u r. P s → P r.state)

@@ -8,7 +8,8 @@ use Rattle.machine.specs.declared.Kind.TheVariants.{Number, End}
 use Rattle.machine.specs.Atom.{Atom, Line, end_line}
 use Rattle.machine.specs.Rule.{Ruler}
 use Rattle.machine.specs.Environment.{Environment}
-use Rattle.machine.specs.State.{State, Stop, stop_number, start}
+use Rattle.machine.specs.State.{State, stop_number, start}
+use Rattle.machine.specs.declared.Stop.{Stop}
 use Rattle.machine.specs.Run.{Result, run}
 use Rattle.machine.specs.Claim.{view, Start, Refines, Views}
 

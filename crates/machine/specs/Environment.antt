@@ -1,10 +1,10 @@
 -- What a run is given beside its program, its cells and its allowance: how many lines fit, and what each page is cleared for.
-use Rattle.std.specs.Prelude.{ℕ, Bool, ℤ, ltb}
-use Rattle.std.proofs.Math.Option.{Option, none, some}
+use Rattle.std.specs.Prelude.{ℕ, Bool, ℤ, ltb, None, Option, Some}
 use Rattle.word.specs.Choose.{choose}
 use Rattle.label.specs.Label.{flows}
 use Rattle.machine.specs.Atom.{Line}
-use Rattle.machine.specs.State.{Stop, not_cleared, output_full}
+use Rattle.machine.specs.declared.Stop.{Stop}
+use Rattle.machine.specs.declared.Stop.TheVariants.{NotCleared, OutputFull}
 
 pub record Environment : Type 0 where
   -- how many lines fit in the output space
@@ -18,4 +18,4 @@ cleared env l = flows l.label (env.clearance l.page)
 
 -- the stop that holds a line back after so many lines: it is not cleared for its page, else there is no room for it
 unfoldable pub barrier : Environment → ℕ → Line → Option Stop
-barrier env written l = choose (cleared env l) (choose (ltb written env.room) none (some output_full)) (some not_cleared)
+barrier env written l = choose (cleared env l) (choose (ltb written env.room) None (Some OutputFull)) (Some NotCleared)

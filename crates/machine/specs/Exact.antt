@@ -7,7 +7,8 @@ use Rattle.program.specs.declared.Command.TheVariants.{Push, Bnz}
 use Rattle.machine.specs.Atom.{value}
 use Rattle.machine.specs.Rule.{missing, Verdict, denied, allowed, Policy}
 use Rattle.machine.specs.Environment.{Environment}
-use Rattle.machine.specs.State.{State, denial, overflow}
+use Rattle.machine.specs.State.{State}
+use Rattle.machine.specs.declared.Stop.TheVariants.{Denial, Overflow}
 use Rattle.machine.specs.Step.{stopped, stepped, of, atom, next, key_of}
 use Rattle.machine.specs.Run.{step}
 use Rattle.machine.specs.Stopped.{CommandAt, Made, number}
@@ -16,10 +17,10 @@ use Rattle.machine.specs.Holds.{Holds}
 -- a step of Add or Sub with two values on top. Stop 6 where its rule denies it. Where that allows it, the whole number that it makes of
 -- them stands in their place if it has 64 bits, and it is stop 9 if it has not: no other stop hides that
 pub record Summing (π : Policy) (env : Environment) (cs : List Command) (s : State) (c : Command) (m : Made c s) (v : Verdict) : Type 0 where
-  pub refused : v ≡ denied → step π env cs s ≡ stopped denial
+  pub refused : v ≡ denied → step π env cs s ≡ stopped Denial
   pub inside : (p r : ℕ) → v ≡ allowed p r → Signed 64 (number m)
       → step π env cs s ≡ next s p (value (atom (number m) r) ∷ m.rest)
-  pub outside : (p r : ℕ) → v ≡ allowed p r → (Signed 64 (number m) → ⊥) → step π env cs s ≡ stopped overflow
+  pub outside : (p r : ℕ) → v ≡ allowed p r → (Signed 64 (number m) → ⊥) → step π env cs s ≡ stopped Overflow
 
 abbrev pub Sums : Type 0
 Sums =

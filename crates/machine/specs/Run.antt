@@ -1,12 +1,12 @@
 -- A run: from any state, with an allowance (fuel), an environment and a ruler.
-use Rattle.std.specs.Prelude.{ℕ, zero, suc, ◌≡◌, Bool, true, false, List, [], ◌∷◌, ◌++◌, ℤ, pos, negsuc, length, eqb}
-use Rattle.std.proofs.Math.Option.{Option, none, some}
-use Rattle.std.proofs.Math.ListN.{get_elem?}
+use Rattle.std.specs.Prelude.{ℕ, zero, suc, ◌≡◌, Bool, true, false, List, [], ◌∷◌, ◌++◌, ℤ, pos, negsuc, length, eqb, None, Option, Some, slice_get}
 use Rattle.word.specs.Choose.{choose}
 use Rattle.program.specs.declared.Command.{Command}
 use Rattle.machine.specs.Atom.{end_line}
 use Rattle.machine.specs.Rule.{Policy, Ruler, rules}
-use Rattle.machine.specs.State.{State, Stop, end, fuel_spent, pc_outside, stop_number}
+use Rattle.machine.specs.State.{State, stop_number}
+use Rattle.machine.specs.declared.Stop.{Stop}
+use Rattle.machine.specs.declared.Stop.TheVariants.{End, FuelSpent, PcOutside}
 use Rattle.machine.specs.Environment.{Environment, barrier}
 use Rattle.machine.specs.Step.{Outcome, stopped, stepped, Request, halt, ask, request, key_of, execute}
 
@@ -17,12 +17,12 @@ at_end n (negsuc i) = false
 
 -- the command at a place; outside the program there is none
 abbrev pub command_at : List Command → ℤ → Option Command
-command_at cs (pos i) = get_elem? cs i
-command_at cs (negsuc i) = none
+command_at cs (pos i) = slice_get cs i
+command_at cs (negsuc i) = None
 
 abbrev pub execute_some : Policy → Environment → Option Command → State → Outcome
-execute_some π env none s = stopped pc_outside
-execute_some π env (some c) s = execute π env c s
+execute_some π env None s = stopped PcOutside
+execute_some π env (Some c) s = execute π env c s
 
 -- one step in the order of the stops: the end; no allowance left; the place outside; then the command
 unfoldable pub step : Policy → Environment → List Command → State → Outcome
@@ -34,8 +34,8 @@ asked_by ρ c s u (halt x) = u
 asked_by ρ c s u (ask l1 l2 l3 k) = (ρ u (key_of c s l1 l2 l3)).ruler
 
 abbrev pub asked_some : {R : Type 0} → Ruler R → Environment → Option Command → State → R → R
-asked_some ρ env none s u = u
-asked_some ρ env (some c) s u = asked_by ρ c s u (request env c s)
+asked_some ρ env None s u = u
+asked_some ρ env (Some c) s u = asked_by ρ c s u (request env c s)
 
 -- what the command at the place leaves of it
 unfoldable pub asked : {R : Type 0} → Ruler R → Environment → List Command → State → R → R
@@ -72,8 +72,8 @@ closed s =
 
 -- at the end: stop 0, which writes the end line; where something holds that back, its stop, and nothing changes
 abbrev pub finish : {R : Type 0} → Option Stop → State → R → Result R
-finish none s u = result end (closed s) u
-finish (some x) s u = result x s u
+finish None s u = result End (closed s) u
+finish (Some x) s u = result x s u
 
 -- what holds it back: it is a line of page 0
 abbrev pub end_barrier : Environment → State → Option Stop
@@ -87,7 +87,7 @@ unless_end env false s u r = r
 module _ {R : Type 0} (ρ : Ruler R) (env : Environment) (cs : List Command) where
   -- from the state s with at most `fuel` steps
   unfoldable pub run : ℕ → State → R → Result R
-  run zero s u = unless_end env (at_end (length cs) s.pc.number) s u (result fuel_spent s u)
+  run zero s u = unless_end env (at_end (length cs) s.pc.number) s u (result FuelSpent s u)
   run (suc fuel) s u =
       let v : R = asked ρ env cs s u in
       let r : Result R = after (step (rules ρ u) env cs s) s v (λ t. run fuel t v) in

@@ -1,7 +1,10 @@
--- The state of a run, and its stops.
+-- The state of a run, and the numbers of its stops.
 use Rattle.std.specs.Prelude.{ℕ, List, [], pos}
 use Rattle.label.specs.Label.{bottom}
 use Rattle.machine.specs.Atom.{Atom, Entry, Line}
+use Rattle.machine.specs.declared.Stop.{Stop}
+use Rattle.machine.specs.declared.Stop.TheVariants.{End, FuelSpent, PcOutside, ValueMissing, FrameMissing, WrongReturn, AddressOutside}
+use Rattle.machine.specs.declared.Stop.TheVariants.{Denial, NotCleared, Overflow, StackFull, OutputFull}
 
 pub record State : Type 0 where
   -- the place: the number of the next command, with the place label P
@@ -19,21 +22,17 @@ pub record State : Type 0 where
 abbrev pub start : List Atom → State
 start cells = record { pc = record { number = pos 0; label = bottom }; stack = []; memory = cells; lines = []; steps = 0 }
 
--- the stops, in the order in which they are tested
-pub data Stop : Type 0 where
-  end fuel_spent pc_outside value_missing frame_missing wrong_return address_outside denial not_cleared overflow stack_full output_full : Stop
-
--- their numbers: document 01's, 9 of request U2, 10 of U5 and 11 of U6
+-- the numbers of the stops: document 01's, 9 of request U2, 10 of U5 and 11 of U6
 abbrev pub stop_number : Stop → ℕ
-stop_number end = 0
-stop_number fuel_spent = 1
-stop_number pc_outside = 2
-stop_number value_missing = 3
-stop_number frame_missing = 4
-stop_number address_outside = 5
-stop_number denial = 6
-stop_number stack_full = 7
-stop_number output_full = 8
-stop_number overflow = 9
-stop_number not_cleared = 10
-stop_number wrong_return = 11
+stop_number End = 0
+stop_number FuelSpent = 1
+stop_number PcOutside = 2
+stop_number ValueMissing = 3
+stop_number FrameMissing = 4
+stop_number AddressOutside = 5
+stop_number Denial = 6
+stop_number StackFull = 7
+stop_number OutputFull = 8
+stop_number Overflow = 9
+stop_number NotCleared = 10
+stop_number WrongReturn = 11

@@ -1,14 +1,14 @@
 -- One step: what a command needs, what the policy says of it, what it does.
-use Rattle.std.specs.Prelude.{ℕ, zero, suc, Bool, true, false, List, [], ◌∷◌, ◌++◌, ℤ, pos, negsuc, ◌+ℤ◌, ◌-ℤ◌, length, set, ltb}
-use Rattle.std.proofs.Math.Option.{Option, none, some}
+use Rattle.std.specs.Prelude.{ℕ, zero, suc, Bool, true, false, List, [], ◌∷◌, ◌++◌, ℤ, pos, negsuc, ◌+ℤ◌, ◌-ℤ◌, length, set, ltb, None, Option, Some}
 use Rattle.word.specs.Exact.{is_signed}
 use Rattle.program.specs.declared.Command.{Command}
 use Rattle.program.specs.declared.Command.TheVariants.{Add, Sub, Pop, Output, Push, Load, Store, Jump, Bnz, Call, Ret, OutputTo, CallN, RetV}
 use Rattle.program.specs.Command.{opcode, arguments_of, results_of}
 use Rattle.machine.specs.Atom.{Atom, Entry, value, frame, Line, number_line}
 use Rattle.machine.specs.Rule.{Input, present, missing, Key, Verdict, denied, allowed, Policy}
-use Rattle.machine.specs.State.{State, Stop, value_missing, frame_missing, wrong_return, address_outside, denial}
-use Rattle.machine.specs.State.{overflow, stack_full}
+use Rattle.machine.specs.State.{State}
+use Rattle.machine.specs.declared.Stop.{Stop}
+use Rattle.machine.specs.declared.Stop.TheVariants.{ValueMissing, FrameMissing, WrongReturn, AddressOutside, Denial, Overflow, StackFull}
 use Rattle.machine.specs.Environment.{Environment, barrier}
 
 -- the largest number of stack entries
@@ -32,9 +32,9 @@ pub data Request : Type 0 where
 
 -- a value on top
 abbrev pub with_value : List Entry → (Atom → List Entry → Request) → Request
-with_value [] k = halt value_missing
+with_value [] k = halt ValueMissing
 with_value (value a ∷ rest) k = k a rest
-with_value (frame owes a ∷ rest) k = halt value_missing
+with_value (frame owes a ∷ rest) k = halt ValueMissing
 
 -- two values on top
 abbrev pub with_values : List Entry → (Atom → Atom → List Entry → Request) → Request
@@ -48,25 +48,25 @@ with_arguments (suc n) s k = with_value s (λ a below. with_arguments n below (�
 -- a frame that owes what is returned: a result, or none
 abbrev pub matching : (returns owes : Bool) → Request → Request
 matching true true q = q
-matching true false q = halt wrong_return
-matching false true q = halt wrong_return
+matching true false q = halt WrongReturn
+matching false true q = halt WrongReturn
 matching false false q = q
 
 -- a frame on top, for a return with a result or without
 abbrev pub with_frame : (returns : Bool) → List Entry → (Atom → List Entry → Request) → Request
-with_frame returns [] k = halt frame_missing
-with_frame returns (value a ∷ rest) k = halt frame_missing
+with_frame returns [] k = halt FrameMissing
+with_frame returns (value a ∷ rest) k = halt FrameMissing
 with_frame returns (frame owes a ∷ rest) k = matching returns owes (k a rest)
 
 -- a cell at an address
 abbrev pub with_element : List Atom → ℕ → (Atom → Request) → Request
-with_element [] i k = halt address_outside
+with_element [] i k = halt AddressOutside
 with_element (a ∷ cells) zero k = k a
 with_element (a ∷ cells) (suc i) k = with_element cells i k
 
 abbrev pub with_cell : List Atom → ℤ → (ℕ → Atom → Request) → Request
 with_cell cells (pos i) k = with_element cells i (k i)
-with_cell cells (negsuc i) k = halt address_outside
+with_cell cells (negsuc i) k = halt AddressOutside
 
 -- a number of 64 bits, room on the stack
 abbrev pub provided : Bool → Stop → Outcome → Outcome
@@ -75,8 +75,8 @@ provided false s o = stopped s
 
 -- a line that nothing holds back
 abbrev pub unless_barred : Option Stop → Outcome → Outcome
-unless_barred none o = o
-unless_barred (some x) o = stopped x
+unless_barred None o = o
+unless_barred (Some x) o = stopped x
 
 -- ════════════════════════════════════════════════════════════════════════════════════════════
 -- What it does
@@ -135,7 +135,7 @@ abbrev pub making : State → (ℤ → ℤ → ℤ) → Request
 making s make =
     with_values s.stack (λ a b rest.
     ask (of a) (of b) missing (λ p r.
-    provided (is_signed 64 (make a.number b.number)) overflow
+    provided (is_signed 64 (make a.number b.number)) Overflow
     (next s p (value (atom (make a.number b.number) r) ∷ rest))))
 
 -- Output and OutputTo: a line on a page, where nothing holds it back
@@ -164,7 +164,7 @@ request env Pop s =
 request env Output s = outputting env s (pos 0)
 request env (Push n) s =
     ask missing missing missing (λ p r.
-    provided (ltb (length s.stack) stack_limit) stack_full
+    provided (ltb (length s.stack) stack_limit) StackFull
     (next s p (value (atom n r) ∷ s.stack)))
 request env Load s =
     with_value s.stack (λ a rest.
@@ -193,7 +193,7 @@ request env RetV s =
 
 -- the rule's answer decides
 abbrev pub decide : Verdict → (ℕ → ℕ → Outcome) → Outcome
-decide denied k = stopped denial
+decide denied k = stopped Denial
 decide (allowed p r) k = k p r
 
 -- what it is asked with

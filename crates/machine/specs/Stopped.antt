@@ -1,15 +1,15 @@
 -- What a result says of a run: of its steps, and for each stop of the state that it stopped in. proofs/Run.antt shows
 -- it of every run.
-use Rattle.std.specs.Prelude.{ℕ, ◌+◌, ◌≤◌, ◌≡◌, ◌⊎◌, Bool, true, false, List, [], ◌∷◌, ◌++◌, ℤ, pos, ◌+ℤ◌, ◌-ℤ◌, length, eqb}
-use Rattle.std.proofs.Math.Option.{none, some}
+use Rattle.std.specs.Prelude.{ℕ, ◌+◌, ◌≤◌, ◌≡◌, ◌⊎◌, Bool, true, false, List, [], ◌∷◌, ◌++◌, ℤ, pos, ◌+ℤ◌, ◌-ℤ◌, length, eqb, None, Some}
 use Rattle.word.specs.Wrap.{Signed}
 use Rattle.program.specs.declared.Command.{Command}
 use Rattle.program.specs.declared.Command.TheVariants.{Add, Sub, Output, OutputTo}
 use Rattle.program.specs.Command.{opcode, push}
 use Rattle.machine.specs.Atom.{Atom, Entry, value, Line, number_line, end_line}
 use Rattle.machine.specs.Rule.{Policy, missing, denied, allowed}
-use Rattle.machine.specs.State.{State, Stop, end, fuel_spent, pc_outside, value_missing, frame_missing, wrong_return}
-use Rattle.machine.specs.State.{address_outside, denial, not_cleared, overflow, stack_full, output_full, stop_number}
+use Rattle.machine.specs.State.{State, stop_number}
+use Rattle.machine.specs.declared.Stop.{Stop}
+use Rattle.machine.specs.declared.Stop.TheVariants.{End, FuelSpent, PcOutside, ValueMissing, FrameMissing, WrongReturn, AddressOutside, Denial, NotCleared, Overflow, StackFull, OutputFull}
 use Rattle.machine.specs.Environment.{Environment, cleared}
 use Rattle.machine.specs.Step.{Request, halt, ask, request, of, key_of, stack_limit}
 use Rattle.machine.specs.Run.{command_at, Result}
@@ -18,14 +18,14 @@ use Rattle.machine.specs.Run.{command_at, Result}
 pub record Counted {R : Type 0} (fuel : ℕ) (s : State) (r : Result R) : Type 0 where
   pub least : s.steps ≤ r.state.steps
   pub most : r.state.steps ≤ s.steps + fuel
-  pub all : r.stop ≡ fuel_spent → r.state.steps ≡ s.steps + fuel
+  pub all : r.stop ≡ FuelSpent → r.state.steps ≡ s.steps + fuel
 
 -- the command at a place, and that there is none
 abbrev pub CommandAt : List Command → ℤ → Command → Type 0
-CommandAt cs z c = command_at cs z ≡ some c
+CommandAt cs z c = command_at cs z ≡ Some c
 
 abbrev pub NoCommandAt : List Command → ℤ → Type 0
-NoCommandAt cs z = command_at cs z ≡ none
+NoCommandAt cs z = command_at cs z ≡ None
 
 -- the policy does not allow what is asked
 abbrev pub Denied : Policy → Command → State → Request → Type 0
@@ -88,18 +88,18 @@ Due π cs s l = Here cs s (Offers π s l) ⊎ (AtTheEnd cs s × (l ≡ end_line 
 
 -- the state s, in which the run stopped, for each stop
 abbrev pub Stopped : Policy → Environment → List Command → State → Stop → Type 0
-Stopped π env cs s end = AtTheEnd cs s × LastLine s (end_line s.pc.label)
-Stopped π env cs s fuel_spent = AtTheEnd cs s → ⊥
-Stopped π env cs s pc_outside = NoCommandAt cs s.pc.number × (AtTheEnd cs s → ⊥)
-Stopped π env cs s value_missing = Here cs s (λ c. request env c s ≡ halt value_missing)
-Stopped π env cs s frame_missing = Here cs s (λ c. request env c s ≡ halt frame_missing)
-Stopped π env cs s wrong_return = Here cs s (λ c. request env c s ≡ halt wrong_return)
-Stopped π env cs s address_outside = Here cs s (λ c. request env c s ≡ halt address_outside)
-Stopped π env cs s denial = Here cs s (λ c. Denied π c s (request env c s))
-Stopped π env cs s not_cleared = (l : Line) × Due π cs s l × (cleared env l ≡ false)
-Stopped π env cs s overflow = Here cs s (λ c. Overflows c s)
-Stopped π env cs s stack_full = Here cs s (λ c. (opcode c ≡ push) × (stack_limit ≤ length s.stack))
-Stopped π env cs s output_full =
+Stopped π env cs s End = AtTheEnd cs s × LastLine s (end_line s.pc.label)
+Stopped π env cs s FuelSpent = AtTheEnd cs s → ⊥
+Stopped π env cs s PcOutside = NoCommandAt cs s.pc.number × (AtTheEnd cs s → ⊥)
+Stopped π env cs s ValueMissing = Here cs s (λ c. request env c s ≡ halt ValueMissing)
+Stopped π env cs s FrameMissing = Here cs s (λ c. request env c s ≡ halt FrameMissing)
+Stopped π env cs s WrongReturn = Here cs s (λ c. request env c s ≡ halt WrongReturn)
+Stopped π env cs s AddressOutside = Here cs s (λ c. request env c s ≡ halt AddressOutside)
+Stopped π env cs s Denial = Here cs s (λ c. Denied π c s (request env c s))
+Stopped π env cs s NotCleared = (l : Line) × Due π cs s l × (cleared env l ≡ false)
+Stopped π env cs s Overflow = Here cs s (λ c. Overflows c s)
+Stopped π env cs s StackFull = Here cs s (λ c. (opcode c ≡ push) × (stack_limit ≤ length s.stack))
+Stopped π env cs s OutputFull =
     (l : Line) × Due π cs s l × (cleared env l ≡ true) × (env.room ≤ length s.lines)
 
 -- is it stop 6?

@@ -1,5 +1,4 @@
 pub mod Acting
 pub mod Following
 pub mod Next
-pub mod Printing
-pub mod Calling
+pub mod Running

@@ -11,11 +11,12 @@ ghost use Rattle.engine.specs.Ended.{ended};
 ghost use Rattle.plain.specs.Plain.{plain};
 
 use engine::start::{Given, Own};
-use engine::{Answer, Clearances};
-use program::Checked;
+use engine::{Clearances, Ran, Space, Surroundings};
+use program::Refusal;
+use step::cell::CellRuns;
 
 // Checks everything, and then runs the sheet on the lent cells to one named stop. A refusal, of 1 to 3, 12, 4, 5, 13, 8 at 1 or 2, or
-// 9, leaves every lent run as it came.
+// 9, leaves every lent run as it came. The runs stand each by itself, as C lends them.
 pub fn execute(
     sheet: &[u8],
     values: &mut [i64],
@@ -28,7 +29,7 @@ pub fn execute(
     kinds: &mut [i64],
     pages: &mut [i64],
     fuel: u64,
-) -> Answer
+) -> Result<Ran, Refusal>
     ensures { ended result tt
         (memory program.new (lent stack.new (cells values.new labels.new))
         (output numbers.new line_labels.new kinds.new pages.new))
@@ -43,28 +44,27 @@ pub fn execute(
         stack: stack.len(),
         fuel,
     };
-    let checked = engine::start::check(sheet, labels, clearances, given, Own::none());
-    match checked {
-        Checked::Refused(r) => Answer::Refused(r),
-        Checked::Accepted(count) => {
-            program::write(sheet, program);
-            let room = engine::room(numbers.len(), line_labels.len(), kinds.len(), pages.len());
-            let words = clearances.words;
-            let ran = run::go(
-                count,
-                room,
-                &words,
-                fuel,
-                program,
-                stack,
-                values,
-                labels,
-                numbers,
-                line_labels,
-                kinds,
-                pages,
-            );
-            Answer::Stopped(ran)
-        }
-    }
+    let count = engine::start::check(sheet, labels, clearances, given, Own::none())?;
+    program::write(sheet, program);
+    let surroundings = Surroundings {
+        room: engine::room(numbers.len(), line_labels.len(), kinds.len(), pages.len()),
+        clearances: &clearances.words,
+    };
+    let mut cells = CellRuns { values, labels };
+    let mut space = Space {
+        numbers,
+        labels: line_labels,
+        kinds,
+        pages,
+    };
+    let ran = run::go(
+        count,
+        surroundings,
+        fuel,
+        program,
+        stack,
+        &mut cells,
+        &mut space,
+    );
+    Ok(ran)
 }

@@ -1,8 +1,8 @@
 -- An accepted row with a key's words holds what the table says for the key; and what the table says makes an accepted row.
 -- Assumes nothing.
+use Rattle.std.proofs.Common.{Some, None, Option}
 use mathlib.Core.Path.{◌≡◌, refl, sym, ap, ◌∙◌}
 use mathlib.Core.Bool.{Bool, true, false, ◌&&◌}
-use mathlib.Core.Option.{Option, none, some}
 use Prim.Native.Nat.{ℕ, zero, suc, ◌≤◌, ◌^◌}
 use native.Mathlib.Omega.{arith}
 use lib.IntN.{ℤ, pos, negsuc}
@@ -11,7 +11,6 @@ use lib.ListN.{replicate}
 use borrow.Author.Tests.{lt-ltb, eqb-true, eq-eqb}
 use Rattle.word.specs.Number.{is_zero}
 use Rattle.label.specs.Label.{principals, InRange}
-use Rattle.label.specs.declared.Stored.{Stored}
 use Rattle.label.specs.Word.{stored_if, stored}
 use Rattle.program.specs.Command.{Opcode, code_of, supplies}
 use Rattle.program.proofs.Codes.{opcode_of-code_of, code-least}
@@ -26,7 +25,7 @@ use Rattle.policy.specs.Row.{accepted_row, key_row}
 -- Labels and inputs as words
 -- ════════════════════════════════════════════════════════════════════════════════════════════
 
-stored-in-range : (l : ℕ) → InRange l → stored (pos l) ≡ Stored.Of (record { 0 = l })
+stored-in-range : (l : ℕ) → InRange l → stored (pos l) ≡ Some (record { 0 = l })
 unfolding stored
 stored-in-range l h = rw (lt-ltb l (2 ^ principals) h)
 
@@ -40,26 +39,26 @@ stored_back (pos n) l e = by-test (ltb n (2 ^ principals)) e
     by-test false e = absurd (let z : ◌≡◌ {A = ℕ} 0 1 = cc in omega arith)
 stored_back (negsuc n) l e = absurd (let z : ◌≡◌ {A = ℕ} 0 1 = cc in omega arith)
 
-label-back : (l m : ℕ) → label_option (stored (pos l)) ≡ some m → m ≡ l
+label-back : (l m : ℕ) → label_option (stored (pos l)) ≡ Some m → m ≡ l
 unfolding stored
 label-back l m e = by-test (ltb l (2 ^ principals)) e
   where
-    by-test : (b : Bool) → label_option (stored_if b l) ≡ some m → m ≡ l
+    by-test : (b : Bool) → label_option (stored_if b l) ≡ Some m → m ≡ l
     by-test true e = cc
     by-test false e = absurd (let z : ◌≡◌ {A = ℕ} 0 1 = cc in omega arith)
 
-input_back : (b : Bool) (i x : Input) → input_of b (input_word i) ≡ some x → x ≡ i
+input_back : (b : Bool) (i x : Input) → input_of b (input_word i) ≡ Some x → x ≡ i
 unfolding stored
 input_back true (present l) x e = by-test (ltb l (2 ^ principals)) e
   where
-    by-test : (b : Bool) → present_of (stored_if b l) ≡ some x → x ≡ present l
+    by-test : (b : Bool) → present_of (stored_if b l) ≡ Some x → x ≡ present l
     by-test true e = cc
     by-test false e = absurd (let z : ◌≡◌ {A = ℕ} 0 1 = cc in omega arith)
 input_back true missing x e = absurd (let z : ◌≡◌ {A = ℕ} 0 1 = cc in omega arith)
 input_back false (present l) x e = absurd (let z : ◌≡◌ {A = ℕ} 0 1 = cc in omega arith)
 input_back false missing x e = cc
 
-input-word : (b : Bool) (i : Input) → Marked b i → input_of b (input_word i) ≡ some i
+input-word : (b : Bool) (i : Input) → Marked b i → input_of b (input_word i) ≡ Some i
 input-word true (present l) h = ap present_of (stored-in-range l h)
 input-word true missing h = absurd h
 input-word false (present l) h = absurd h
@@ -69,18 +68,18 @@ input-word false missing h = refl
 -- The key of a row
 -- ════════════════════════════════════════════════════════════════════════════════════════════
 
-record Some {A : Type 0} (x : Option A) (P : A → Type 0) : Type 0 where
+record Known {A : Type 0} (x : Option A) (P : A → Type 0) : Type 0 where
   value : A
-  is : x ≡ some value
+  is : x ≡ Some value
   then : P value
 
-given-some : {A B : Type 0} (x : Option A) (f : A → Option B) (y : B) → given x f ≡ some y → Some x (λ a. f a ≡ some y)
-given-some none f y e = absurd (let z : ◌≡◌ {A = ℕ} 0 1 = cc in omega arith)
-given-some (some a) f y e = record { value = a; is = refl; then = e }
+given-some : {A B : Type 0} (x : Option A) (f : A → Option B) (y : B) → given x f ≡ Some y → Known x (λ a. f a ≡ Some y)
+given-some None f y e = absurd (let z : ◌≡◌ {A = ℕ} 0 1 = cc in omega arith)
+given-some (Some a) f y e = record { value = a; is = refl; then = e }
 
-holds-some : {A : Type 0} (x : Option A) (f : A → Bool) → holds x f ≡ true → Some x (λ a. f a ≡ true)
-holds-some none f e = absurd (let z : ◌≡◌ {A = ℕ} 0 1 = cc in omega arith)
-holds-some (some a) f e = record { value = a; is = refl; then = e }
+holds-some : {A : Type 0} (x : Option A) (f : A → Bool) → holds x f ≡ true → Known x (λ a. f a ≡ true)
+holds-some None f e = absurd (let z : ◌≡◌ {A = ℕ} 0 1 = cc in omega arith)
+holds-some (Some a) f e = record { value = a; is = refl; then = e }
 
 positive-not-zero : (n : ℕ) → 1 ≤ n → is_zero (pos n) ≡ false
 positive-not-zero zero h = absurd (omega arith)
@@ -103,7 +102,7 @@ module _ (k : Key) (p r : ℤ) where
   not-empty = rw (code-not-zero o)
 
   -- the row's key is the key
-  row-key-back : (j : Key) → row_key o (key_row k p r) ≡ some j → j ≡ k
+  row-key-back : (j : Key) → row_key o (key_row k p r) ≡ Some j → j ≡ k
   row-key-back j e =
       let q = given-some (label_option (stored (pos k.pc))) _ j e in
       let a = given-some (input_of (leb 1 (supplies o)) (input_word k.input1)) _ j q.then in
@@ -113,10 +112,10 @@ module _ (k : Key) (p r : ℤ) where
       ∙ same_key o (label-back k.pc q.value q.is) (input_back (leb 1 (supplies o)) k.input1 a.value a.is)
       (input_back (leb 2 (supplies o)) k.input2 b.value b.is) (input_back (leb 3 (supplies o)) k.input3 c.value c.is)
     where
-      some_same : (x y : Key) → some x ≡ some y → y ≡ x
+      some_same : (x y : Key) → Some x ≡ Some y → y ≡ x
       some_same x y e = cc
 
-  row-key-is : WellMarked k → row_key o (key_row k p r) ≡ some k
+  row-key-is : WellMarked k → row_key o (key_row k p r) ≡ Some k
   row-key-is m =
       rw (
         ap label_option (stored-in-range k.pc m.pc),

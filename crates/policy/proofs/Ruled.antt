@@ -1,14 +1,13 @@
 -- The rule that a command is under belongs to a command that supplies as many inputs; and the code of the command that a rule belongs to.
 -- Assumes nothing.
+use Rattle.std.proofs.Common.{None, Option, Some, slice_get}
 use mathlib.Core.Path.{◌≡◌, refl, sym, ap, ◌∙◌}
 use mathlib.Core.Bool.{Bool, true, false, ◌&&◌}
 use mathlib.Core.List.{List, [], ◌∷◌}
-use mathlib.Core.Option.{Option, none, some}
 use Prim.Native.Nat.{ℕ, zero, suc, ◌+◌, ◌<◌}
 use native.Mathlib.Omega.{arith}
 use native.Mathlib.Numerals.{add-one}
 use lib.Dec.{T, eqb, leb, eqb→eq, leb→le}
-use lib.ListN.{get_elem?}
 use Rattle.program.specs.Command.{Opcode, opcodes, ruled, opcode_of, code_of, supplies, rule_number}
 use Rattle.word.proofs.Bool.{and_left, and_right}
 use Rattle.program.proofs.Codes.{opcode_of-code_of, opcode-all}
@@ -17,21 +16,21 @@ use Rattle.policy.specs.Read.{rule_count, owner_code}
 -- the command whose rule it is
 pub record Under (o : Opcode) : Type 0 where
   pub owner : Opcode
-  pub at : get_elem? ruled (rule_number o) ≡ some owner
+  pub at : slice_get ruled (rule_number o) ≡ Some owner
   pub inputs : supplies owner ≡ supplies o
 
 abbrev alike : Option Opcode → Opcode → Bool
-alike none o = false
-alike (some q) o = eqb (supplies q) (supplies o)
+alike None o = false
+alike (Some q) o = eqb (supplies q) (supplies o)
 
 pub under : (o : Opcode) → Under o
-under o = by (get_elem? ruled (rule_number o)) refl (opcode-all (λ o. alike (get_elem? ruled (rule_number o)) o) tt o)
+under o = by (slice_get ruled (rule_number o)) refl (opcode-all (λ o. alike (slice_get ruled (rule_number o)) o) tt o)
   where
-    by : (x : Option Opcode) → get_elem? ruled (rule_number o) ≡ x → T (alike x o) → Under o
-    by none e t = absurd t
-    by (some q) e t = record { owner = q; at = e; inputs = eqb→eq (supplies q) (supplies o) t }
+    by : (x : Option Opcode) → slice_get ruled (rule_number o) ≡ x → T (alike x o) → Under o
+    by None e t = absurd t
+    by (Some q) e t = record { owner = q; at = e; inputs = eqb→eq (supplies q) (supplies o) t }
 
-pub owner-inputs : (o q : Opcode) → get_elem? ruled (rule_number o) ≡ some q → supplies q ≡ supplies o
+pub owner-inputs : (o q : Opcode) → slice_get ruled (rule_number o) ≡ Some q → supplies q ≡ supplies o
 owner-inputs o q e = let u = under o in let same : q ≡ u.owner = cc in ap supplies same ∙ u.inputs
 
 -- a table has it
@@ -39,7 +38,7 @@ pub rule-few : (o : Opcode) → rule_number o < rule_count
 rule-few o = leb→le (suc (rule_number o)) rule_count (opcode-all (λ o. leb (suc (rule_number o)) rule_count) tt o)
 
 -- commands by their codes, which begin at 1
-pub opcodes-next : (i : ℕ) (o : Opcode) → get_elem? opcodes i ≡ some o → opcode_of (i + 1) ≡ some o
+pub opcodes-next : (i : ℕ) (o : Opcode) → slice_get opcodes i ≡ Some o → opcode_of (i + 1) ≡ Some o
 unfolding opcode_of
 opcodes-next i o e = rw (add-one i) e
 
@@ -48,7 +47,7 @@ abbrev owning : ℕ → List Opcode → Bool
 owning i [] = true
 owning i (o ∷ os) = eqb (code_of o) (owner_code i) && owning (suc i) os
 
-element-owning : (i : ℕ) (os : List Opcode) → T (owning i os) → (k : ℕ) (o : Opcode) → get_elem? os k ≡ some o → code_of o ≡ owner_code (i + k)
+element-owning : (i : ℕ) (os : List Opcode) → T (owning i os) → (k : ℕ) (o : Opcode) → slice_get os k ≡ Some o → code_of o ≡ owner_code (i + k)
 element-owning i [] t k o e = absurd (let z : ◌≡◌ {A = ℕ} 0 1 = cc in omega arith)
 element-owning i (x ∷ os) t zero o e =
     let d : x ≡ o = cc in
@@ -60,9 +59,9 @@ element-owning i (x ∷ os) t (suc k) o e =
     element-owning (suc i) os (and_right (eqb (code_of x) (owner_code i)) (owning (suc i) os) t) k o e ∙ ap owner_code n
 
 -- the command that has a rule, by its number: its code, and what is found under that code
-pub ruled-owner : (i : ℕ) (o : Opcode) → get_elem? ruled i ≡ some o → code_of o ≡ owner_code i
+pub ruled-owner : (i : ℕ) (o : Opcode) → slice_get ruled i ≡ Some o → code_of o ≡ owner_code i
 unfolding owner_code
 ruled-owner i o e = let n : 0 + i ≡ i = omega arith in element-owning 0 ruled tt i o e ∙ ap owner_code n
 
-pub ruled-code : (i : ℕ) (o : Opcode) → get_elem? ruled i ≡ some o → opcode_of (owner_code i) ≡ some o
+pub ruled-code : (i : ℕ) (o : Opcode) → slice_get ruled i ≡ Some o → opcode_of (owner_code i) ≡ Some o
 ruled-code i o e = ap opcode_of (sym (ruled-owner i o e)) ∙ opcode_of-code_of o

@@ -1,13 +1,13 @@
 -- A table that was read can be written: its expressions are at most 8 deep, name supplied inputs only, and its bytes are those read.
 -- Assumes nothing.
+use Rattle.std.proofs.Common.{None, Option, Some, slice_get}
 use mathlib.Core.Path.{◌≡◌, refl}
 use mathlib.Core.Bool.{Bool, true, false}
 use mathlib.Core.List.{List, [], ◌∷◌}
-use mathlib.Core.Option.{Option, none, some}
 use Prim.Native.Nat.{ℕ, zero, suc, ◌+◌, ◌<◌, ◌≤◌, max}
 use native.Mathlib.Omega.{arith}
 use lib.Dec.{leb, ltb, eqb}
-use lib.ListN.{length, get_elem?, length-append}
+use lib.ListN.{length, length-append}
 use borrow.Author.Tests.{leb-true}
 use Rattle.program.specs.Command.{Opcode, ruled, supplies, has_result}
 use Rattle.policy.specs.declared.Token.{Token}
@@ -35,7 +35,7 @@ then-good P Q (found a next) k g f = f a next g
 -- A byte that was read is there
 -- ════════════════════════════════════════════════════════════════════════════════════════════
 
-present-lt : (bytes : List ℕ) (at b : ℕ) → get_elem? bytes at ≡ some b → at < length bytes
+present-lt : (bytes : List ℕ) (at b : ℕ) → slice_get bytes at ≡ Some b → at < length bytes
 present-lt [] at b e = absurd (let z : ◌≡◌ {A = ℕ} 0 1 = cc in omega arith)
 present-lt (x ∷ bytes) zero b e = omega arith
 present-lt (x ∷ bytes) (suc at) b e = let h = present-lt bytes at b e in omega arith
@@ -55,11 +55,11 @@ Present Nothing = ⊥
 
 token-lt : (bytes : List ℕ) (at : ℕ) (t : Token) → token_at bytes at ≡ t → Present t → at < length bytes
 unfolding token_at
-token-lt bytes at t e p = go (get_elem? bytes at) refl e
+token-lt bytes at t e p = go (slice_get bytes at) refl e
   where
-    go : (x : Option ℕ) → get_elem? bytes at ≡ x → token_option x ≡ t → at < length bytes
-    go none d e = let q : Present Nothing = rw (← e) at p in absurd q
-    go (some b) d e = present-lt bytes at b d
+    go : (x : Option ℕ) → slice_get bytes at ≡ x → token_option x ≡ t → at < length bytes
+    go None d e = let q : Present Nothing = rw (← e) at p in absurd q
+    go (Some b) d e = present-lt bytes at b d
 
 -- ════════════════════════════════════════════════════════════════════════════════════════════
 -- Expressions
@@ -184,17 +184,17 @@ module _ (n : ℕ) (bytes : List ℕ) where
     size : at + length (write_label e) ≡ next
     within : next ≤ length bytes
 
-  empty-byte : (at : ℕ) (x : Option ℕ) → get_elem? bytes at ≡ x → Good (ResultFound false at) (empty_byte x at)
+  empty-byte : (at : ℕ) (x : Option ℕ) → slice_get bytes at ≡ x → Good (ResultFound false at) (empty_byte x at)
   unfolding write_label
-  empty-byte at none d = tt
-  empty-byte at (some b) d = go (eqb b 0x10)
+  empty-byte at None d = tt
+  empty-byte at (Some b) d = go (eqb b 0x10)
     where
       go : (c : Bool) → Good (ResultFound false at) (read_if c empty at)
       go true = let h = present-lt bytes at b d in record { fits = refl; size = refl; within = omega arith }
       go false = tt
 
   result-found : (has : Bool) (at : ℕ) → Good (ResultFound has at) (result_if has n bytes at)
-  result-found false at = empty-byte at (get_elem? bytes at) refl
+  result-found false at = empty-byte at (slice_get bytes at) refl
   result-found true at = go (read_label depth_limit n bytes at) (label-found depth_limit at)
     where
       go : (r : Read LabelExpr) → Good (LabelFound depth_limit at) r → Good (ResultFound true at) r

@@ -1,7 +1,5 @@
 -- Reading a rule table directly: what it says for a key.
-use Rattle.std.specs.Prelude.{ℕ, Bool, true, ◌&&◌, ◌||◌}
-use Rattle.std.proofs.Math.Option.{Option, none, some}
-use Rattle.std.proofs.Math.ListN.{get_elem?}
+use Rattle.std.specs.Prelude.{ℕ, Bool, true, ◌&&◌, ◌||◌, None, Option, Some, slice_get}
 use Rattle.label.specs.Label as Label
 use Rattle.program.specs.Command.{Opcode, rule_number}
 use Rattle.machine.specs.Rule.{Key, label_of, Verdict, denied, allowed_if, Policy}
@@ -25,12 +23,12 @@ eval_condition k (either a b) = eval_condition k a || eval_condition k b
 
 -- the rule that a command is under
 abbrev pub rule_of : Table → Opcode → Option Rule
-rule_of t o = get_elem? t (rule_number o)
+rule_of t o = slice_get t (rule_number o)
 
 -- what it says: a command without a rule is not allowed
 abbrev pub eval_rule : Option Rule → Key → Verdict
-eval_rule none k = denied
-eval_rule (some r) k = allowed_if (eval_condition k r.allowed) (eval_label k r.pc) (eval_label k r.result)
+eval_rule None k = denied
+eval_rule (Some r) k = allowed_if (eval_condition k r.allowed) (eval_label k r.pc) (eval_label k r.result)
 
 -- the table as a policy
 unfoldable pub evaluate : Table → Policy

@@ -1,7 +1,5 @@
 -- Reading a rule table from bytes: its rules, or the offset of the first byte at fault. Check 6.
-use Rattle.std.specs.Prelude.{ℕ, zero, suc, ◌+◌, Bool, true, false, List, [], ◌∷◌, leb, ltb, eqb, length}
-use Rattle.std.proofs.Math.Option.{Option, none, some}
-use Rattle.std.proofs.Math.ListN.{get_elem?}
+use Rattle.std.specs.Prelude.{ℕ, zero, suc, ◌+◌, Bool, true, false, List, [], ◌∷◌, leb, ltb, eqb, length, None, Option, Some, slice_get}
 use Rattle.program.specs.declared.Refusal.{Refusal}
 use Rattle.program.specs.Decode.{refusal}
 use Rattle.program.specs.Command.{Opcode, ret, ret_v, ruled, code_of, supplies, has_result}
@@ -74,13 +72,13 @@ depth_limit = 8
 
 -- the byte 10; another one counts as misplaced
 abbrev pub empty_byte : Option ℕ → (at : ℕ) → Read LabelExpr
-empty_byte none at = fault at
-empty_byte (some b) at = read_if (eqb b 0x10) empty at
+empty_byte None at = fault at
+empty_byte (Some b) at = read_if (eqb b 0x10) empty at
 
 -- the result of a rule: where the command has none, it must be the byte 10
 abbrev pub result_if : Bool → (supplied : ℕ) → List ℕ → (at : ℕ) → Read LabelExpr
 result_if true n bytes at = read_label depth_limit n bytes at
-result_if false n bytes at = empty_byte (get_elem? bytes at) at
+result_if false n bytes at = empty_byte (slice_get bytes at) at
 
 -- a rule: three expressions (allowed, place, result)
 unfoldable pub read_rule_with : (supplied : ℕ) (result : Bool) → List ℕ → (at : ℕ) → Read Rule

@@ -1,15 +1,13 @@
 -- The rule memory: seven words (code, P, L1, L2, L3, new place label, result label), and the rows that check 7 accepts.
-use Rattle.std.specs.Prelude.{ℕ, zero, suc, Bool, true, false, ◌&&◌, ◌||◌, List, [], ◌∷◌, ℤ, pos, negsuc, leb, eqb, get_or}
-use Rattle.std.proofs.Math.Option.{Option, none, some}
-use Rattle.word.specs.declared.number.Natural.{Natural}
+use Rattle.std.specs.Prelude.{ℕ, zero, suc, Bool, true, false, ◌&&◌, ◌||◌, List, [], ◌∷◌, ℤ, pos, negsuc, leb, eqb, get_or, None, Option, Some}
 use Rattle.word.specs.Number.{is_zero, natural_of}
-use Rattle.label.specs.declared.Stored.{Stored}
 use Rattle.label.specs.Word.{stored}
 use Rattle.program.specs.Command.{Opcode, opcode_of, code_of, supplies}
 use Rattle.machine.specs.Rule.{Input, present, missing, input_word, Key, Verdict, denied, allowed}
 use Rattle.policy.specs.Expression.{Table}
 use Rattle.policy.specs.Evaluate.{evaluate}
 use Rattle.policy.specs.Read.{ReadTable, refused, table}
+use Rattle.label.specs.declared.Label.{Label}
 
 -- seven zeros mean empty
 abbrev pub empty_row : List ℤ → Bool
@@ -22,30 +20,30 @@ is_mark (pos n) = false
 is_mark (negsuc zero) = true
 is_mark (negsuc (suc n)) = false
 
-abbrev pub present_of : Stored → Option Input
-present_of (Stored.Of l) = some (present l.0)
-present_of Stored.Nothing = none
+abbrev pub present_of : Option Label → Option Input
+present_of (Some l) = Some (present l.0)
+present_of None = None
 
 abbrev pub missing_if : Bool → Option Input
-missing_if true = some missing
-missing_if false = none
+missing_if true = Some missing
+missing_if false = None
 
 -- an input's word: a label in range where the command supplies the input, else −1
 abbrev pub input_of : (supplied : Bool) → ℤ → Option Input
 input_of true w = present_of (stored w)
 input_of false w = missing_if (is_mark w)
 
-abbrev pub label_option : Stored → Option ℕ
-label_option (Stored.Of l) = some l.0
-label_option Stored.Nothing = none
+abbrev pub label_option : Option Label → Option ℕ
+label_option (Some l) = Some l.0
+label_option None = None
 
 abbrev pub given : {A B : Type 0} → Option A → (A → Option B) → Option B
-given none f = none
-given (some a) f = f a
+given None f = None
+given (Some a) f = f a
 
 abbrev pub holds : {A : Type 0} → Option A → (A → Bool) → Bool
-holds none f = false
-holds (some a) f = f a
+holds None f = false
+holds (Some a) f = f a
 
 abbrev pub word : List ℤ → ℕ → ℤ
 word ws i = get_or ws i (pos 0)
@@ -57,16 +55,16 @@ row_key o ws =
     given (input_of (leb 1 (supplies o)) (word ws 2)) (λ a.
     given (input_of (leb 2 (supplies o)) (word ws 3)) (λ b.
     given (input_of (leb 3 (supplies o)) (word ws 4)) (λ c.
-    some (record { opcode = o; pc = p; input1 = a; input2 = b; input3 = c })))))
+    Some (record { opcode = o; pc = p; input1 = a; input2 = b; input3 = c })))))
 
-abbrev pub opcode_natural : Natural → Option Opcode
-opcode_natural (Natural.Of n) = opcode_of n
-opcode_natural Natural.Negative = none
+abbrev pub opcode_natural : Option ℕ → Option Opcode
+opcode_natural (Some n) = opcode_of n
+opcode_natural None = None
 
 -- a word stores this label
-abbrev pub is_stored : Stored → ℕ → Bool
-is_stored (Stored.Of x) l = eqb x.0 l
-is_stored Stored.Nothing l = false
+abbrev pub is_stored : Option Label → ℕ → Bool
+is_stored (Some x) l = eqb x.0 l
+is_stored None l = false
 
 -- allowed, with these two labels
 abbrev pub agrees : Verdict → (place result : ℤ) → Bool

@@ -1,7 +1,5 @@
 -- The bytes of a rule table: what each stands for.
-use Rattle.std.specs.Prelude.{ℕ, ◌-◌, Bool, true, false, List, [], ◌∷◌, leb}
-use Rattle.std.proofs.Math.Option.{Option, none, some}
-use Rattle.std.proofs.Math.ListN.{get_elem?}
+use Rattle.std.specs.Prelude.{ℕ, ◌-◌, Bool, true, false, List, [], ◌∷◌, leb, None, Option, Some, slice_get}
 use Rattle.policy.specs.declared.Token.{Token}
 use Rattle.policy.specs.declared.Token.TheVariants.{Empty, Place, Input1, Input2, Input3, Join, Flows, True, And, Or, Nothing}
 
@@ -10,11 +8,11 @@ abbrev pub tokens : List Token
 tokens = Empty ∷ Place ∷ Input1 ∷ Input2 ∷ Input3 ∷ Join ∷ Flows ∷ True ∷ And ∷ Or ∷ []
 
 abbrev pub or_nothing : Option Token → Token
-or_nothing none = Nothing
-or_nothing (some t) = t
+or_nothing None = Nothing
+or_nothing (Some t) = t
 
 abbrev pub token_if : Bool → ℕ → Token
-token_if true i = or_nothing (get_elem? tokens i)
+token_if true i = or_nothing (slice_get tokens i)
 token_if false i = Nothing
 
 -- a byte outside 10 to 19 stands for nothing
@@ -22,12 +20,12 @@ unfoldable pub token_of : ℕ → Token
 token_of b = token_if (leb 0x10 b) (b - 0x10)
 
 abbrev pub token_option : Option ℕ → Token
-token_option none = Nothing
-token_option (some b) = token_of b
+token_option None = Nothing
+token_option (Some b) = token_of b
 
 -- the byte at an offset; where it is missing, nothing
 unfoldable pub token_at : List ℕ → ℕ → Token
-token_at bytes at = token_option (get_elem? bytes at)
+token_at bytes at = token_option (slice_get bytes at)
 
 abbrev pub byte_of : Token → ℕ
 byte_of Empty = 0x10

@@ -14,8 +14,9 @@ use program::code;
 // How many rules a table has: one for each command but OutputTo, which is under Output's, and CallN, which is under Call's.
 pub const RULES: u64 = 12;
 
-// What a byte of a rule table stands for: an expression or an operator, or nothing.
-#[derive(Drop)]
+// What a byte of a rule table stands for: an expression or an operator, or nothing, which is a token too in the definitions that read one
+// (specs/Token.antt, specs/Read.antt).
+#[derive(Clone, Copy, PartialEq, Eq, Debug)]
 pub enum Token {
     Empty,
     Place,
@@ -31,6 +32,7 @@ pub enum Token {
 }
 
 // What a byte of a rule table stands for.
+#[tactic(auto, unfolding(crate::specs::Token::token_of))]
 pub fn token_of(byte: u8) -> Token
     ensures { result ≡ token_of byte }
 {
@@ -50,6 +52,7 @@ pub fn token_of(byte: u8) -> Token
 }
 
 // The code of the command that has the rule with a number: the first rules are those of the codes up to Ret's, the last is RetV's.
+#[tactic(auto, unfolding(crate::specs::Read::owner_code))]
 pub fn owner(rule: u64) -> u64
     ensures { result ≡ owner_code rule }
 {

@@ -1,10 +1,9 @@
 // The rule memory. Read specs/Row.antt first.
 ghost use Rattle.std.specs.Prelude.{◌≡◌, pos, get_or, set, replicate};
-ghost use Rattle.word.specs.Number.{is_zero};
 ghost use Rattle.policy.specs.Row.{empty_row};
 
 // The rule memory: code, P, L1, L2, L3, new place label, result label.
-#[derive(Clone, Copy)]
+#[derive(Clone, Copy, PartialEq, Eq, Debug)]
 pub struct Cache {
     pub words: [i64; 7],
 }
@@ -21,14 +20,14 @@ impl Cache {
     pub fn get(self, i: usize) -> i64
         ensures { result ≡ get_or self.words i (pos 0) }
     {
-        let words = self.words;
-        if i < 7 { words[i] } else { 0 }
+        self.words.get(i).copied().unwrap_or(0)
     }
 
     // One word changed and no other; none outside.
     pub fn set(mut self, i: usize, word: i64) -> Cache
         ensures { result.words ≡ set self.words i word }
     {
+        // After a write through `get_mut` a proof knows no word.
         if i < 7 {
             self.words[i] = word;
         }
@@ -36,23 +35,10 @@ impl Cache {
     }
 
     // Seven zeros.
+    #[tactic(auto, using(crate::proofs::Rows::zeros_empty))]
     pub fn is_empty(self) -> bool
         ensures { result ≡ empty_row self.words }
     {
-        let mut i: usize = 0;
-        while i < 7 {
-            if is_zero(self.get(i)) {
-                i += 1;
-            } else {
-                return false;
-            }
-        }
-        true
+        self.words == [0; 7]
     }
-}
-
-fn is_zero(word: i64) -> bool
-    ensures { result ≡ is_zero word }
-{
-    word == 0
 }

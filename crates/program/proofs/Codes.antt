@@ -1,16 +1,16 @@
 -- Codes and commands: a code stands for one opcode, an opcode has one code, and a command is its opcode with its operand. What holds of
 -- every row of the table of commands is a computed test of the list of opcodes (`opcode-all`).
 -- Assumes nothing.
+use Rattle.std.proofs.Common.{None, Option, Some, slice_get}
 use mathlib.Core.Path.{◌≡◌, refl, sym, ap, ◌∙◌}
 use mathlib.Core.Bool.{Bool, true, ◌&&◌, ◌||◌}
 use mathlib.Core.List.{List, [], ◌∷◌}
-use mathlib.Core.Option.{Option, none, some}
 use Prim.Native.Nat.{ℕ, zero, suc, ◌+◌, ◌-◌, ◌<◌, ◌≤◌}
 use native.Mathlib.Nat.{mod-eq_of_lt}
 use native.Mathlib.Omega.{arith}
 use lib.IntN.{ℤ, pos}
 use lib.Dec.{T, eqb, leb, leb→le, eqb→eq}
-use lib.ListN.{length, get_elem?}
+use lib.ListN.{length}
 use borrow.Author.Tests.{ne_eqb}
 use Rattle.word.specs.Wrap.{residue}
 use Rattle.word.proofs.Bool.{and_left, and_right}
@@ -23,7 +23,7 @@ use Rattle.program.specs.Command.{Opcode, add, sub, pop, output, push, load, sto
 use Rattle.program.specs.Command.{opcodes, opcode_of, code_of, operand_of, operand_width, opcode, operand, command}
 
 -- an opcode is found under its code
-pub opcode_of-code_of : (o : Opcode) → opcode_of (code_of o) ≡ some o
+pub opcode_of-code_of : (o : Opcode) → opcode_of (code_of o) ≡ Some o
 unfolding opcode_of
 opcode_of-code_of add = refl
 opcode_of-code_of sub = refl
@@ -41,11 +41,11 @@ opcode_of-code_of call_n = refl
 opcode_of-code_of ret_v = refl
 
 -- its index among the opcodes
-pub opcodes-code : (o : Opcode) → get_elem? opcodes (code_of o - 1) ≡ some o
+pub opcodes-code : (o : Opcode) → slice_get opcodes (code_of o - 1) ≡ Some o
 unfolding opcode_of
 opcodes-code o = by (code_of o) (opcode_of-code_of o)
   where
-    by : (n : ℕ) → opcode_of n ≡ some o → get_elem? opcodes (n - 1) ≡ some o
+    by : (n : ℕ) → opcode_of n ≡ Some o → slice_get opcodes (n - 1) ≡ Some o
     by zero e = absurd (let z : ◌≡◌ {A = ℕ} 0 1 = cc in omega arith)
     by (suc i) e = let k : suc i - 1 ≡ i = omega arith in rw k e
 
@@ -57,7 +57,7 @@ abbrev pub all : (Opcode → Bool) → List Opcode → Bool
 all p [] = true
 all p (o ∷ os) = p o && all p os
 
-element-all : (p : Opcode → Bool) (os : List Opcode) (i : ℕ) (o : Opcode) → T (all p os) → get_elem? os i ≡ some o → T (p o)
+element-all : (p : Opcode → Bool) (os : List Opcode) (i : ℕ) (o : Opcode) → T (all p os) → slice_get os i ≡ Some o → T (p o)
 element-all p [] i o t e = absurd (let z : ◌≡◌ {A = ℕ} 0 1 = cc in omega arith)
 element-all p (x ∷ os) zero o t e = let d : x ≡ o = cc in rw d at (and_left (p x) (all p os) t)
 element-all p (x ∷ os) (suc i) o t e = element-all p os i o (and_right (p x) (all p os) t) e
@@ -95,7 +95,7 @@ abbrev coded : ℕ → List Opcode → Bool
 coded i [] = true
 coded i (o ∷ os) = eqb (code_of o) i && coded (suc i) os
 
-element-coded : (i : ℕ) (os : List Opcode) → T (coded i os) → (k : ℕ) (o : Opcode) → get_elem? os k ≡ some o → code_of o ≡ i + k
+element-coded : (i : ℕ) (os : List Opcode) → T (coded i os) → (k : ℕ) (o : Opcode) → slice_get os k ≡ Some o → code_of o ≡ i + k
 element-coded i [] t k o e = absurd (let z : ◌≡◌ {A = ℕ} 0 1 = cc in omega arith)
 element-coded i (x ∷ os) t zero o e =
     let d : x ≡ o = cc in
@@ -105,21 +105,21 @@ element-coded i (x ∷ os) t (suc k) o e =
     let d = element-coded (suc i) os (and_right (eqb (code_of x) i) (coded (suc i) os) t) k o e in omega arith
 
 -- the opcode that is found under a code has that code
-pub code_of-opcode_of : (n : ℕ) (o : Opcode) → opcode_of n ≡ some o → code_of o ≡ n
+pub code_of-opcode_of : (n : ℕ) (o : Opcode) → opcode_of n ≡ Some o → code_of o ≡ n
 unfolding opcode_of
 code_of-opcode_of zero o e = absurd (let z : ◌≡◌ {A = ℕ} 0 1 = cc in omega arith)
 code_of-opcode_of (suc k) o e = let d = element-coded 1 opcodes tt k o e in omega arith
 
 -- a code that is no opcode's stands for none
-pub opcode_of-none : (n : ℕ) → ((o : Opcode) → n ≡ code_of o → ⊥) → opcode_of n ≡ none
+pub opcode_of-none : (n : ℕ) → ((o : Opcode) → n ≡ code_of o → ⊥) → opcode_of n ≡ None
 opcode_of-none n h = none_is (opcode_of n) refl
   where
-    none_is : (x : Option Opcode) → opcode_of n ≡ x → opcode_of n ≡ none
-    none_is none e = e
-    none_is (some o) e = absurd (h o (sym (code_of-opcode_of n o e)))
+    none_is : (x : Option Opcode) → opcode_of n ≡ x → opcode_of n ≡ None
+    none_is None e = e
+    none_is (Some o) e = absurd (h o (sym (code_of-opcode_of n o e)))
 
 -- the codes are those from 1 to the number of opcodes
-pub opcode_of-outside : (n : ℕ) → (1 ≤ n → length opcodes < n) → opcode_of n ≡ none
+pub opcode_of-outside : (n : ℕ) → (1 ≤ n → length opcodes < n) → opcode_of n ≡ None
 opcode_of-outside n h = opcode_of-none n (λ o e. let k = h (omega (arith, code-least o)) in omega (arith, code-most o))
 
 -- ════════════════════════════════════════════════════════════════════════════════════════════

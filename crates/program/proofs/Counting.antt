@@ -1,5 +1,6 @@
 -- Two counts and their word: the word of two counts in range has them, and a word that is in range is that of its two counts.
 -- Assumes nothing.
+use Rattle.std.proofs.Common.{None, Some}
 use mathlib.Core.Path.{◌≡◌, refl, sym, ap, ◌∙◌}
 use mathlib.Core.Bool.{Bool, true, false}
 use Prim.Native.Nat.{ℕ, ◌+◌, ◌*◌, ◌/◌, ◌%◌, ◌<◌}
@@ -8,9 +9,7 @@ use lib.IntN.{ℤ, pos, negsuc}
 use lib.Dec.{ltb}
 use borrow.Author.Tests.{lt-ltb, ltb-true}
 use Rattle.word.specs.Choose.{choose}
-use Rattle.word.specs.Number.{natural_of, index_of, index_if}
-use Rattle.word.specs.declared.number.Natural.TheVariants.{Of, Negative}
-use Rattle.word.specs.declared.number.Index.TheVariants.{At, Outside}
+use Rattle.word.specs.Number.{index_of, index_if}
 use Rattle.word.proofs.Bits.{index-found}
 use Rattle.word.proofs.Bool.{never, and_first, and_second}
 use Rattle.program.specs.Command.{counts, arguments_of, results_of, is_counts}
@@ -71,35 +70,27 @@ results-small (negsuc n) = omega arith
 -- As the code reads words
 -- ════════════════════════════════════════════════════════════════════════════════════════════
 
-pub word-natural : (z : ℤ) (n : ℕ) → natural_of z ≡ Of n → (n / 16 ≡ arguments_of z) × (n % 16 ≡ results_of z)
-word-natural (pos m) n e = let d : n ≡ m = cc in (rw d, rw d)
-word-natural (negsuc m) n e = never (cc)
-
-pub word-negative : (z : ℤ) → natural_of z ≡ Negative → (0 ≡ arguments_of z) × (0 ≡ results_of z)
-word-negative (pos m) e = never (cc)
-word-negative (negsuc m) e = (refl, refl)
-
-not-below : (n b : ℕ) → index_of (pos n) b ≡ Outside → ltb n b ≡ false
+not-below : (n b : ℕ) → index_of (pos n) b ≡ None → ltb n b ≡ false
 unfolding index_of
 not-below n b e = by (ltb n b) e
   where
-    by : (t : Bool) → index_if t n ≡ Outside → t ≡ false
+    by : (t : Bool) → index_if t n ≡ None → t ≡ false
     by true e = never (cc)
     by false e = refl
 
-pub outside-counts : (z : ℤ) → index_of z 256 ≡ Outside → false ≡ is_counts z
+pub outside-counts : (z : ℤ) → index_of z 256 ≡ None → false ≡ is_counts z
 outside-counts (pos n) e = rw (not-below n 256 e)
 outside-counts (negsuc n) e = refl
 
-pub inside-counts : (z : ℤ) (n : ℕ) → index_of z 256 ≡ At n → ltb (n % 16) 2 ≡ is_counts z
+pub inside-counts : (z : ℤ) (n : ℕ) → index_of z 256 ≡ Some n → ltb (n % 16) 2 ≡ is_counts z
 inside-counts z n e = let (d, h) = index-found z 256 n e in rw (d, lt-ltb n 256 h)
 
-pub arguments-outside : (a d : ℤ) → index_of a 16 ≡ Outside → negsuc 0 ≡ counts a d
+pub arguments-outside : (a d : ℤ) → index_of a 16 ≡ None → negsuc 0 ≡ counts a d
 arguments-outside (pos a) (pos d) e = rw (not-below a 16 e)
 arguments-outside (pos a) (negsuc d) e = refl
 arguments-outside (negsuc a) d e = refl
 
-pub results-outside : (a d : ℤ) → index_of d 2 ≡ Outside → negsuc 0 ≡ counts a d
+pub results-outside : (a d : ℤ) → index_of d 2 ≡ None → negsuc 0 ≡ counts a d
 results-outside (pos a) (pos d) e = rw (not-below d 2 e) (by (ltb a 16))
   where
     by : (t : Bool) → negsuc 0 ≡ choose t (negsuc 0) (negsuc 0)
@@ -108,7 +99,10 @@ results-outside (pos a) (pos d) e = rw (not-below d 2 e) (by (ltb a 16))
 results-outside (pos a) (negsuc d) e = refl
 results-outside (negsuc a) d e = refl
 
-pub inside-word : (a d : ℤ) (i j : ℕ) → index_of a 16 ≡ At i → index_of d 2 ≡ At j → pos (16 * i + j) ≡ counts a d
+pub inside-small : (a d : ℤ) (i j : ℕ) → index_of a 16 ≡ Some i → index_of d 2 ≡ Some j → (i < 16) × (j < 2)
+inside-small a d i j e f = ((index-found a 16 i e).1, (index-found d 2 j f).1)
+
+pub inside-word : (a d : ℤ) (i j : ℕ) → index_of a 16 ≡ Some i → index_of d 2 ≡ Some j → pos (16 * i + j) ≡ counts a d
 inside-word a d i j e f =
     let (k, g) = index-found a 16 i e in
     let (l, h) = index-found d 2 j f in

@@ -1,6 +1,7 @@
 -- Laws of decoding: at most so many commands, one command at a time as code reads it, and the way back from the bytes that encode a
 -- program.
 -- Assumes nothing.
+use Rattle.std.proofs.Common.{None, Option, Some}
 use mathlib.Core.Path.{◌≡◌, refl, ap, ◌∙◌}
 use mathlib.Core.Bool.{Bool, true, false}
 use mathlib.Core.List.{List, [], ◌∷◌}
@@ -12,8 +13,6 @@ use lib.Dec.{leb}
 use lib.ListN.{length, drop, get_or, length-drop}
 use lib.Seq.{drop-drop}
 use borrow.Author.Tests.{leb-true, le-leb}
-use Rattle.word.specs.declared.field.Field.{Field}
-use Rattle.word.specs.declared.field.Field.TheVariants.{Number, Cut}
 use Rattle.word.specs.Field.{unsigned_at, signed_at, bits_at}
 use Rattle.word.specs.Field as Field
 use Rattle.word.specs.Wrap.{signed}
@@ -65,20 +64,20 @@ unsigned_at-drop k s p i h =
 
 -- one of one byte is that byte
 module _ (s : List ℕ) (at : ℕ) where
-  pub byte-whole : at < length s → unsigned_at 1 s at ≡ Number (pos (get_or s at 0))
+  pub byte-whole : at < length s → unsigned_at 1 s at ≡ Some (pos (get_or s at 0))
   byte-whole h =
       let e : bits_at 1 s at ≡ get_or s at 0 = omega (arith, bits_at-cons 0 s at h, bits_at-none s (suc at)) in
       rw (unsigned_at-whole 1 s at (omega arith), e)
 
-  pub byte_cut : length s ≤ at → unsigned_at 1 s at ≡ Cut
+  pub byte_cut : length s ≤ at → unsigned_at 1 s at ≡ None
   byte_cut h = unsigned_at-cut 1 s at (omega arith)
 
 -- two counts were read from two fields
-pub counts-fields : (f g : Field) (z : ℤ) → counts_field f g ≡ Number z
-    → (a : ℤ) × (d : ℤ) × (f ≡ Number a) × (g ≡ Number d) × (counts a d ≡ z)
-counts-fields Cut g z e = never (cc)
-counts-fields (Number a) Cut z e = never (cc)
-counts-fields (Number a) (Number d) z e = (a, d, refl, refl, cc)
+pub counts-fields : (f g : Option ℤ) (z : ℤ) → counts_field f g ≡ Some z
+    → (a : ℤ) × (d : ℤ) × (f ≡ Some a) × (g ≡ Some d) × (counts a d ≡ z)
+counts-fields None g z e = never (cc)
+counts-fields (Some a) None z e = never (cc)
+counts-fields (Some a) (Some d) z e = (a, d, refl, refl, cc)
 
 -- an operand in what is left from a position on is the operand at that position
 pub operand_at-drop : (x : Operand) (s : List ℕ) (p : ℕ) → p ≤ length s → operand_at x (drop p s) 0 ≡ operand_at x s p
@@ -89,30 +88,30 @@ operand_at-drop Operand.Counts s p h =
     rw (unsigned_at-drop 1 s p 0 h, unsigned_at-drop 1 s p (0 + 1) h, add-zero p, zero-add 1)
 
 -- that of no bytes is 0
-pub operand_at-none : (x : Operand) (s : List ℕ) (p : ℕ) (z : ℤ) → operand_at x s p ≡ Number z → width x ≡ 0 → z ≡ pos 0
+pub operand_at-none : (x : Operand) (s : List ℕ) (p : ℕ) (z : ℤ) → operand_at x s p ≡ Some z → width x ≡ 0 → z ≡ pos 0
 unfolding signed_at bits_at signed value_of
 operand_at-none (Operand.Signed k) s p z e w = none-whole (leb (p + 0) (length s)) (rw w at e)
   where
-    none-whole : (b : Bool) → Field.whole b (pos 0) ≡ Number z → z ≡ pos 0
+    none-whole : (b : Bool) → Field.whole b (pos 0) ≡ Some z → z ≡ pos 0
     none-whole true e = cc
     none-whole false e = absurd (let z : ◌≡◌ {A = ℕ} 0 1 = cc in omega arith)
 operand_at-none Operand.Page s p z e w = absurd (omega arith)
 operand_at-none Operand.Counts s p z e w = absurd (omega arith)
 
-pub signed_at-empty : (s : List ℕ) (p : ℕ) → p ≤ length s → signed_at 0 s p ≡ Number (pos 0)
+pub signed_at-empty : (s : List ℕ) (p : ℕ) → p ≤ length s → signed_at 0 s p ≡ Some (pos 0)
 unfolding signed_at bits_at signed value_of
 signed_at-empty s p h = rw (le-leb (p + 0) (length s) (omega arith))
 
 -- a whole one ends within the bytes
-pub operand_at-whole : (x : Operand) (s : List ℕ) (p : ℕ) (z : ℤ) → operand_at x s p ≡ Number z → p + width x ≤ length s
+pub operand_at-whole : (x : Operand) (s : List ℕ) (p : ℕ) (z : ℤ) → operand_at x s p ≡ Some z → p + width x ≤ length s
 unfolding signed_at unsigned_at
 operand_at-whole x s p z e = by x e
   where
-    go : (p k : ℕ) (n z : ℤ) (b : Bool) → leb (p + k) (length s) ≡ b → Field.whole b n ≡ Number z → p + k ≤ length s
+    go : (p k : ℕ) (n z : ℤ) (b : Bool) → leb (p + k) (length s) ≡ b → Field.whole b n ≡ Some z → p + k ≤ length s
     go p k n z true t e = leb-true (p + k) (length s) t
     go p k n z false t e = never (cc)
 
-    by : (x : Operand) → operand_at x s p ≡ Number z → p + width x ≤ length s
+    by : (x : Operand) → operand_at x s p ≡ Some z → p + width x ≤ length s
     by (Operand.Signed k) e = go p k (signed (8 * k) (bits_at k s p)) z (leb (p + k) (length s)) refl e
     by Operand.Page e = go p 1 (pos (bits_at 1 s p)) z (leb (p + 1) (length s)) refl e
     by Operand.Counts e =

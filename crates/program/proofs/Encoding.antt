@@ -1,9 +1,9 @@
 -- Writing a program as bytes and reading it gives it back; a program that was read can be written: each operand fits its width; and writing
 -- it gives the bytes that it was read from. What is written are bytes.
 -- Assumes nothing.
+use Rattle.std.proofs.Common.{None, Option, Some}
 use mathlib.Core.Path.{◌≡◌, refl, sym, ap, ap₂, ◌∙◌}
 use mathlib.Core.List.{List, [], ◌∷◌, ◌++◌}
-use mathlib.Core.Option.{Option, none, some}
 use Prim.Native.Nat.{ℕ, zero, suc, ◌+◌, ◌*◌, ◌%◌, ◌^◌, ◌<◌, ◌≤◌}
 use native.Mathlib.Nat.{mod-eq_of_lt}
 use native.Mathlib.Omega.{arith}
@@ -12,13 +12,10 @@ use lib.IntN.{ℤ, pos, negsuc}
 use borrow.Author.Tests.{ltb-true}
 use lib.ListN.{length, take, drop, set, take-append-drop}
 use lib.Seq.{drop_at, get_or-drop, get_or-take, length-take-le}
-use Rattle.word.specs.declared.field.Field.{Field}
-use Rattle.word.specs.declared.field.Field.TheVariants.{Number, Cut}
 use Rattle.word.specs.Wrap.{Signed, signed, residue}
 use Rattle.word.specs.Digits.{digits_of}
 use Rattle.word.specs.Field.{Bytes, signed_at, unsigned_at, bits_at, bytes_of}
 use Rattle.word.specs.Text.{put_answer, put_out}
-use Rattle.word.specs.declared.text.Put.TheVariants.{Next}
 use Rattle.word.proofs.Lay.{laid_at-nil, laid_at-cons}
 use Rattle.word.proofs.Laws.Text.{put-room}
 use Rattle.word.proofs.Laws.Digits.{Below, value-digits}
@@ -43,22 +40,22 @@ use Rattle.word.proofs.Bool.{never}
 -- ════════════════════════════════════════════════════════════════════════════════════════════
 
 -- the bytes of a number that fits them hold it
-signed-bytes : (k : ℕ) (z : ℤ) → FitsBytes k z → (rest : List ℕ) → signed_at k (bytes_of k z ++ rest) 0 ≡ Number z
-signed-bytes zero z w rest = signed_at-empty _ 0 (omega arith) ∙ ap Number (sym w)
+signed-bytes : (k : ℕ) (z : ℤ) → FitsBytes k z → (rest : List ℕ) → signed_at k (bytes_of k z ++ rest) 0 ≡ Some z
+signed-bytes zero z w rest = signed_at-empty _ 0 (omega arith) ∙ ap Some (sym w)
 signed-bytes (suc k) z w rest = Field.signed_at-bytes (suc k) [] rest z (omega arith) w
 
-page-bytes : (z : ℤ) → is_page z ≡ true → (rest : List ℕ) → unsigned_at 1 (bytes_of 1 z ++ rest) 0 ≡ Number z
+page-bytes : (z : ℤ) → is_page z ≡ true → (rest : List ℕ) → unsigned_at 1 (bytes_of 1 z ++ rest) 0 ≡ Some z
 page-bytes (pos n) w rest = Field.unsigned_at-bytes 1 [] rest n (omega (arith, ltb-true n 16 w))
 page-bytes (negsuc n) w rest = never (cc)
 
-counts-bytes : (z : ℤ) → is_counts z ≡ true → (rest : List ℕ) → operand_at Operand.Counts (operand_bytes Operand.Counts z ++ rest) 0 ≡ Number z
+counts-bytes : (z : ℤ) → is_counts z ≡ true → (rest : List ℕ) → operand_at Operand.Counts (operand_bytes Operand.Counts z ++ rest) 0 ≡ Some z
 counts-bytes z w rest =
     let (h, k) = word-range z w in
     let s = operand_bytes Operand.Counts z ++ rest in
     let e : arguments_of z % 256 ≡ arguments_of z = omega arith in
-    rw (byte-whole s 0 (omega arith), byte-whole s (0 + 1) (omega arith), e) (ap Number (word_counts z w))
+    rw (byte-whole s 0 (omega arith), byte-whole s (0 + 1) (omega arith), e) (ap Some (word_counts z w))
 
-fits-bytes : (x : Operand) (z : ℤ) → Fits x z → (rest : List ℕ) → operand_at x (operand_bytes x z ++ rest) 0 ≡ Number z
+fits-bytes : (x : Operand) (z : ℤ) → Fits x z → (rest : List ℕ) → operand_at x (operand_bytes x z ++ rest) 0 ≡ Some z
 fits-bytes (Operand.Signed k) z w rest = signed-bytes k z w rest
 fits-bytes Operand.Page z w rest = page-bytes z w rest
 fits-bytes Operand.Counts z w rest = counts-bytes z w rest
@@ -98,13 +95,13 @@ decode-encode cs h w = decode-from cs command_limit 0 h w
 -- Commands without an operand's bytes in lent memory
 -- ════════════════════════════════════════════════════════════════════════════════════════════
 
-pub put-nothing : (at : ℕ) (old : List ℕ) → at ≤ length old → (Next at ≡ put_answer at [] old) × (old ≡ put_out at [] old)
+pub put-nothing : (at : ℕ) (old : List ℕ) → at ≤ length old → (Some at ≡ put_answer at [] old) × (old ≡ put_out at [] old)
 put-nothing at old h =
     let put = put-room at 0 [] old refl (omega arith) in
-    (ap Next (omega arith) ∙ sym put.0, sym (put.1 ∙ laid_at-nil at old))
+    (ap Some (omega arith) ∙ sym put.0, sym (put.1 ∙ laid_at-nil at old))
 
 pub put-bare : (at x : ℕ) (z : ℤ) (old : List ℕ) → at < length old
-    → (Next (at + 1) ≡ put_answer at (x ∷ bytes_of 0 z) old) × (set old at x ≡ put_out at (x ∷ bytes_of 0 z) old)
+    → (Some (at + 1) ≡ put_answer at (x ∷ bytes_of 0 z) old) × (set old at x ≡ put_out at (x ∷ bytes_of 0 z) old)
 unfolding bytes_of digits_of
 put-bare at x z old h =
     let put = put-room at 1 (x ∷ []) old refl (omega arith) in
@@ -116,19 +113,19 @@ put-bare at x z old h =
 
 -- a field of k bytes within the bytes
 module _ (k : ℕ) (s : List ℕ) (z : ℤ) (b : Bytes s) (h : 0 + k ≤ length s) where
-  field-signed : 0 < k → signed_at k s 0 ≡ Number z → Signed (8 * k) z
+  field-signed : 0 < k → signed_at k s 0 ≡ Some z → Signed (8 * k) z
   field-signed p e =
       let d : z ≡ signed (8 * k) (bits_at k s 0) = cc (Field.signed_at-whole k s 0 h) in
       rw d (signed_range (8 * k) (bits_at k s 0) (omega arith) (Field.bits_at-lt k s 0 h b))
 
-operand-fits : (x : Operand) (s : List ℕ) (z : ℤ) → Bytes s → operand_at x s 0 ≡ Number z → permitted x z ≡ true → Fits x z
+operand-fits : (x : Operand) (s : List ℕ) (z : ℤ) → Bytes s → operand_at x s 0 ≡ Some z → permitted x z ≡ true → Fits x z
 operand-fits (Operand.Signed zero) s z b e t = operand_at-none (Operand.Signed 0) s 0 z e refl
 operand-fits (Operand.Signed (suc k)) s z b e t =
     field-signed (suc k) s z b (operand_at-whole (Operand.Signed (suc k)) s 0 z e) (omega arith) e
 operand-fits Operand.Page s z b e t = t
 operand-fits Operand.Counts s z b e t = t
 
-operand-writable : (o : Opcode) (s : List ℕ) (z : ℤ) → Bytes s → operand_at (operand_of o) s 0 ≡ Number z → permitted (operand_of o) z ≡ true
+operand-writable : (o : Opcode) (s : List ℕ) (z : ℤ) → Bytes s → operand_at (operand_of o) s 0 ≡ Some z → permitted (operand_of o) z ≡ true
     → Writable (command o z)
 operand-writable o s z b e t =
     rw (opcode-command o z, operand-command o z (λ w. operand_at-none (operand_of o) s 0 z e w)) (operand-fits (operand_of o) s z b e t)
@@ -143,14 +140,14 @@ FirstWritable unknown = Unit {0}
 FirstWritable cut = Unit {0}
 FirstWritable (whole c w) = permits c ≡ true → Writable c
 
-operand-first : (o : Opcode) (s : List ℕ) → Bytes s → (f : Field) → operand_at (operand_of o) s 0 ≡ f → FirstWritable (first_operand o f)
-operand-first o s b Cut e = tt
-operand-first o s b (Number z) e =
+operand-first : (o : Opcode) (s : List ℕ) → Bytes s → (f : Option ℤ) → operand_at (operand_of o) s 0 ≡ f → FirstWritable (first_operand o f)
+operand-first o s b None e = tt
+operand-first o s b (Some z) e =
     λ t. operand-writable o s z b e (rw (opcode-command o z, operand-command o z (λ w. operand_at-none (operand_of o) s 0 z e w)) at t)
 
 opcode-first : (x : Option Opcode) (s : List ℕ) → Bytes s → FirstWritable (first_opcode x s)
-opcode-first none s b = tt
-opcode-first (some o) s b = operand-first o s b (operand_at (operand_of o) s 0) refl
+opcode-first None s b = tt
+opcode-first (Some o) s b = operand-first o s b (operand_at (operand_of o) s 0) refl
 
 first-writable : (x : First) (at : ℕ) (rest : ℕ → Decoded) → FirstWritable x → ((w : ℕ) → AllWritable (commands_of (rest w)))
     → AllWritable (commands_of (decode_first x at rest))
@@ -199,7 +196,7 @@ unfolding residue
 residue-natural k n h = mod-eq_of_lt h
 
 -- two counts that are permitted are the two bytes
-counts-taken : (s : List ℕ) (z : ℤ) → operand_at Operand.Counts s 0 ≡ Number z → is_counts z ≡ true
+counts-taken : (s : List ℕ) (z : ℤ) → operand_at Operand.Counts s 0 ≡ Some z → is_counts z ≡ true
     → operand_bytes Operand.Counts z ≡ take 2 s
 counts-taken [] z e t = absurd (omega (arith, operand_at-whole Operand.Counts [] 0 z e))
 counts-taken (a ∷ []) z e t = absurd (omega (arith, operand_at-whole Operand.Counts (a ∷ []) 0 z e))
@@ -211,7 +208,7 @@ counts-taken (a ∷ d ∷ s) z e t =
     let y = ap results_of (sym k) ∙ counts-results a d g h in
     ap₂ (λ (x y : ℕ). x ∷ y ∷ []) (omega arith) y
 
-operand-bytes : (x : Operand) (s : List ℕ) (z : ℤ) → Bytes s → operand_at x s 0 ≡ Number z → permitted x z ≡ true
+operand-bytes : (x : Operand) (s : List ℕ) (z : ℤ) → Bytes s → operand_at x s 0 ≡ Some z → permitted x z ≡ true
     → operand_bytes x z ≡ take (width x) s
 unfolding bytes_of digits_of
 operand-bytes (Operand.Signed zero) s z b e t = refl
@@ -238,10 +235,10 @@ prepend-encodes c (refused r) s t e h = tt
 prepend-encodes c (accepted cs) s t e h = rw h e
 
 operand-encodes : (o : Opcode) (b : ℕ) (s : List ℕ) (at : ℕ) (rest : ℕ → Decoded) → code_of o ≡ b → Bytes s
-    → ((w : ℕ) → Encodes (drop w s) (rest w)) → (f : Field) → operand_at (operand_of o) s 0 ≡ f
+    → ((w : ℕ) → Encodes (drop w s) (rest w)) → (f : Option ℤ) → operand_at (operand_of o) s 0 ≡ f
     → Encodes (b ∷ s) (decode_first (first_operand o f) at rest)
-operand-encodes o b s at rest d h g Cut e = tt
-operand-encodes o b s at rest d h g (Number z) e = by (permits (command o z)) refl
+operand-encodes o b s at rest d h g None e = tt
+operand-encodes o b s at rest d h g (Some z) e = by (permits (command o z)) refl
   where
     made : operand (command o z) ≡ z
     made = operand-command o z (λ k. operand_at-none (operand_of o) s 0 z e k)
@@ -263,8 +260,8 @@ operand-encodes o b s at rest d h g (Number z) e = by (permits (command o z)) re
 
 opcode-encodes : (x : Option Opcode) (b : ℕ) (s : List ℕ) (at : ℕ) (rest : ℕ → Decoded) → opcode_of b ≡ x → Bytes s
     → ((w : ℕ) → Encodes (drop w s) (rest w)) → Encodes (b ∷ s) (decode_first (first_opcode x s) at rest)
-opcode-encodes none b s at rest e h g = tt
-opcode-encodes (some o) b s at rest e h g =
+opcode-encodes None b s at rest e h g = tt
+opcode-encodes (Some o) b s at rest e h g =
     operand-encodes o b s at rest (code_of-opcode_of b o e) h g (operand_at (operand_of o) s 0) refl
 
 decode-encodes : (left at : ℕ) (s : List ℕ) → Bytes s → Encodes s (decode_from left at s)

@@ -1,42 +1,41 @@
 -- Decoding one command at a time, as code reads it: what fetching at a position says of the program from there on.
 -- Assumes nothing.
+use Rattle.std.proofs.Common.{Err, None, Ok, Option, Result, Some}
 use mathlib.Core.Path.{◌≡◌, refl, sym, ap, ap₂, subst, ◌∙◌}
-use mathlib.Core.Bool.{Bool, true, false}
+use mathlib.Core.Bool.{Bool}
 use mathlib.Core.List.{List, [], ◌∷◌}
-use mathlib.Core.Option.{Option, none, some}
 use Prim.Native.Nat.{ℕ, suc, ◌+◌, ◌*◌, ◌%◌, ◌<◌, ◌≤◌}
 use native.Mathlib.Nat.{add-zero}
 use native.Mathlib.Numerals.{add-one}
 use native.Mathlib.Omega.{arith}
-use lib.IntN.{ℤ, pos, negsuc}
-use lib.Signed.{lt_z}
+use lib.IntN.{ℤ, pos}
 use lib.ListN.{length, drop, get_or, get_or-eq_default}
+use mir.Syntax.{w64}
+use mir.Val.{to_z, of_z}
 use lib.Seq.{drop-cons, drop-drop}
-use borrow.Author.Tests.{lt-ltb, le-ltb, ltb-true, ltb-false}
-use Rattle.word.specs.declared.field.Field.{Field}
-use Rattle.word.specs.Exact.{is_signed}
 use Rattle.word.specs.Digits.{digits_of}
 use Rattle.word.specs.Wrap.{residue, signed}
 use Rattle.word.specs.Field.{bits_at, unsigned_at, signed_at, bytes_of}
 use Rattle.word.proofs.Bool.{never}
-use Rattle.word.proofs.Laws.Field.{bits_at-none, bits_at-cons, signed_at-whole, signed_at-cut, unsigned_at-whole}
-use Rattle.program.specs.declared.Fetched.{Fetched}
-use Rattle.program.specs.declared.Fetched.TheVariants.{Is, Unknown, Cut}
+use Rattle.word.proofs.Signed.{back-ok}
+use Rattle.word.proofs.Laws.Field.{bits_at-lt, bits_at-none, bits_at-cons, signed_at-whole, signed_at-cut, unsigned_at-whole}
 use Rattle.program.specs.declared.Operand.{Operand}
-use Rattle.program.specs.declared.Shape.TheVariants as Shape
-use Rattle.program.specs.Command.{Opcode, opcode_of, code_of, operand_of, width, operand_width, holds}
-use Rattle.program.specs.Command.{is_page, counts, arguments_of, results_of, command, opcode, operand}
+use Rattle.program.specs.declared.Shape.{Shape}
+use Rattle.program.specs.Command.{Opcode, opcode_of, code_of, operand_of, width, operand_width}
+use Rattle.program.specs.Command.{counts, arguments_of, results_of, command, opcode, operand}
 use Rattle.program.specs.Decode.{First, unknown, cut, whole, counts_field, operand_at, first_opcode, refused, refusal, permits, check_of}
 use Rattle.program.specs.Decode.{decode_if, decode_first, decode_from}
 use Rattle.program.specs.Encode.{operand_bytes, encode_code}
 use Rattle.program.specs.Space.{take_first, readable}
-use Rattle.program.specs.Fetch.{shape_of, takes_of, permits_of, refuses_of, field_of, fetch_field, fetch_opcode, fetch_of}
+use Rattle.program.specs.Fetch.{shape_of, permits_of, refuses_of, field_of, fetch_field, fetch_opcode, fetch_of}
 use Rattle.program.proofs.Counting.{results-small}
 use Rattle.program.proofs.Codes.{opcode_of-code_of, code_of-opcode_of, code-most, opcode-command, operand-command, width-none}
 use Rattle.program.proofs.Decode.{byte-whole, byte_cut, operand_at-drop, operand_at-none, signed_at-empty, operand_at-whole}
+use Rattle.program.specs.declared.Fault.{Fault}
+use Rattle.program.specs.declared.Fault.TheVariants.{Unknown, Cut}
 
 -- the operand of a command is its field, which is 0 where it has no bytes
-operand-field : (o : Opcode) (s : List ℕ) (p : ℕ) (z : ℤ) → operand_at (operand_of o) s p ≡ Field.Number z → operand (command o z) ≡ z
+operand-field : (o : Opcode) (s : List ℕ) (p : ℕ) (z : ℤ) → operand_at (operand_of o) s p ≡ Some z → operand (command o z) ≡ z
 operand-field o s p z e = operand-command o z (λ w. operand_at-none (operand_of o) s p z e w)
 
 -- what stands at a position
@@ -54,19 +53,19 @@ pub record Next (s : List ℕ) (at : ℕ) (z : ℤ) (next : ℕ) : Type 0 where
   pub first : first_at s at ≡ whole (command opcode z) (operand_width opcode)
 
 -- what fetching says of what stands there
-abbrev Fetches : List ℕ → ℕ → Fetched → Type 0
-Fetches s at Unknown = first_at s at ≡ unknown
-Fetches s at Cut = first_at s at ≡ cut
-Fetches s at (Is z next) = Next s at z next
+abbrev Fetches : List ℕ → ℕ → Result (ℤ × ℕ) Fault → Type 0
+Fetches s at (Err Unknown) = first_at s at ≡ unknown
+Fetches s at (Err Cut) = first_at s at ≡ cut
+Fetches s at (Ok (z, next)) = Next s at z next
 
 module _ (s : List ℕ) (at : ℕ) (h : at < length s) where
   field_at : (x : Operand) → operand_at x (drop (suc at) s) 0 ≡ operand_at x s (at + 1)
   field_at x = operand_at-drop x s (suc at) h ∙ ap (operand_at x s) (sym (add-one at))
 
-  fetches-field : (o : Opcode) → opcode_of (get_or s at 0) ≡ some o → (f : Field) → operand_at (operand_of o) s (at + 1) ≡ f
+  fetches-field : (o : Opcode) → opcode_of (get_or s at 0) ≡ Some o → (f : Option ℤ) → operand_at (operand_of o) s (at + 1) ≡ f
       → Fetches s at (fetch_field f (at + 1 + operand_width o))
-  fetches-field o k Field.Cut e = rw (k, field_at (operand_of o), e)
-  fetches-field o k (Field.Number z) e =
+  fetches-field o k None e = rw (k, field_at (operand_of o), e)
+  fetches-field o k (Some z) e =
       record {
         opcode = o;
         code = code_of-opcode_of (get_or s at 0) o k;
@@ -78,15 +77,15 @@ module _ (s : List ℕ) (at : ℕ) (h : at < length s) where
       }
 
   fetches-opcode : (x : Option Opcode) → opcode_of (get_or s at 0) ≡ x → Fetches s at (fetch_opcode x s (at + 1))
-  fetches-opcode none e = rw e
-  fetches-opcode (some o) e = fetches-field o e (operand_at (operand_of o) s (at + 1)) refl
+  fetches-opcode None e = rw e
+  fetches-opcode (Some o) e = fetches-field o e (operand_at (operand_of o) s (at + 1)) refl
 
-  fetches : (x : Fetched) → fetch_of s at ≡ x → Fetches s at x
+  fetches : (x : Result (ℤ × ℕ) Fault) → fetch_of s at ≡ x → Fetches s at x
   unfolding fetch_of
   fetches x e = subst (Fetches s at) e (fetches-opcode (opcode_of (get_or s at 0)) refl)
 
-  pub fetched-next : (z : ℤ) (next : ℕ) → fetch_of s at ≡ Is z next → Next s at z next
-  fetched-next z next e = fetches (Is z next) e
+  pub fetched-next : (z : ℤ) (next : ℕ) → fetch_of s at ≡ Ok (z, next) → Next s at z next
+  fetched-next z next e = fetches (Ok (z, next)) e
 
   -- may it have its operand? As its code's shape says
   pub fetched-permits : {z : ℤ} {next : ℕ} (n : Next s at z next)
@@ -108,11 +107,11 @@ module _ (s : List ℕ) (at : ℕ) (h : at < length s) where
     unfolding decode_from
     decode-by x e = rw (drop-cons s at 0 h, e)
 
-    pub decode-unknown : fetch_of s at ≡ Unknown → decode_from (suc left) at (drop at s) ≡ refused (refusal 2 at)
-    decode-unknown e = decode-by unknown (fetches Unknown e)
+    pub decode-unknown : fetch_of s at ≡ Err Unknown → decode_from (suc left) at (drop at s) ≡ refused (refusal 2 at)
+    decode-unknown e = decode-by unknown (fetches (Err Unknown) e)
 
-    pub decode-cut : fetch_of s at ≡ Cut → decode_from (suc left) at (drop at s) ≡ refused (refusal 3 at)
-    decode-cut e = decode-by cut (fetches Cut e)
+    pub decode-cut : fetch_of s at ≡ Err Cut → decode_from (suc left) at (drop at s) ≡ refused (refusal 3 at)
+    decode-cut e = decode-by cut (fetches (Err Cut) e)
 
     -- a command that was fetched, by whether it may have its operand
     module _ {z : ℤ} {next : ℕ} (n : Next s at z next) (b : Bool) (t : permits (command n.opcode z) ≡ b) where
@@ -131,11 +130,11 @@ module _ (s : List ℕ) (at : ℕ) (h : at < length s) where
     unfolding readable
     readable-by x e = rw (drop-cons s at 0 h, e)
 
-    pub readable-unknown : fetch_of s at ≡ Unknown → readable (suc room) (drop at s) ≡ []
-    readable-unknown e = readable-by unknown (fetches Unknown e)
+    pub readable-unknown : fetch_of s at ≡ Err Unknown → readable (suc room) (drop at s) ≡ []
+    readable-unknown e = readable-by unknown (fetches (Err Unknown) e)
 
-    pub readable-cut : fetch_of s at ≡ Cut → readable (suc room) (drop at s) ≡ []
-    readable-cut e = readable-by cut (fetches Cut e)
+    pub readable-cut : fetch_of s at ≡ Err Cut → readable (suc room) (drop at s) ≡ []
+    readable-cut e = readable-by cut (fetches (Err Cut) e)
 
     pub readable-next : {z : ℤ} {next : ℕ} (n : Next s at z next)
         → readable (suc room) (drop at s) ≡ command n.opcode z ∷ readable room (drop next s)
@@ -150,14 +149,18 @@ module _ (s : List ℕ) (at : ℕ) (h : at < length s) where
 
 -- the opcode of a code, which has this operand
 abbrev pub Shaped : ℕ → Operand → Type 0
-Shaped code x = (o : Opcode) × (opcode_of code ≡ some o) × (operand_of o ≡ x)
+Shaped code x = (o : Opcode) × (opcode_of code ≡ Some o) × (operand_of o ≡ x)
 
-pub shaped : (code : ℕ) (x : Operand) (n : ℕ) (has : Bool) (rule : ℕ) → shape_of (opcode_of code) ≡ Shape.Of x n has rule → Shaped code x
-shaped code x n has rule e = of (opcode_of code) refl e
+abbrev operand_or : Operand → Option Shape → Operand
+operand_or x None = x
+operand_or x (Some shape) = shape.operand
+
+pub shaped : (code : ℕ) (shape : Shape) → shape_of (opcode_of code) ≡ Some shape → Shaped code shape.operand
+shaped code shape e = of (opcode_of code) refl e
   where
-    of : (y : Option Opcode) → opcode_of code ≡ y → shape_of y ≡ Shape.Of x n has rule → Shaped code x
-    of none d e = absurd (let z : ◌≡◌ {A = ℕ} 0 1 = cc in omega arith)
-    of (some o) d e = (o, d, cc)
+    of : (y : Option Opcode) → opcode_of code ≡ y → shape_of y ≡ Some shape → Shaped code shape.operand
+    of None d e = absurd (let z : ◌≡◌ {A = ℕ} 0 1 = cc in omega arith)
+    of (Some o) d e = (o, d, ap (operand_or (operand_of o)) e)
 
 -- no bytes, where there are neither eight nor two
 pub shaped-none : (code w : ℕ) → Shaped code (Operand.Signed w) → (w ≡ 8 → ⊥) → (w ≡ 2 → ⊥) → w ≡ 0
@@ -169,73 +172,80 @@ width-nothing code (Operand.Signed w) x f g h = shaped-none code w x f g
 width-nothing code Operand.Page x f g h = absurd (h refl)
 width-nothing code Operand.Counts x f g h = absurd (g refl)
 
-pub unshaped : (code : ℕ) → shape_of (opcode_of code) ≡ Shape.Unknown → opcode_of code ≡ none
+pub unshaped : (code : ℕ) → shape_of (opcode_of code) ≡ None → opcode_of code ≡ None
 unshaped code e = of (opcode_of code) refl e
   where
-    of : (x : Option Opcode) → opcode_of code ≡ x → shape_of x ≡ Shape.Unknown → opcode_of code ≡ none
-    of none d e = d
-    of (some o) d e = absurd (let z : ◌≡◌ {A = ℕ} 0 1 = cc in omega arith)
+    of : (x : Option Opcode) → opcode_of code ≡ x → shape_of x ≡ None → opcode_of code ≡ None
+    of None d e = d
+    of (Some o) d e = absurd (let z : ◌≡◌ {A = ℕ} 0 1 = cc in omega arith)
 
 module _ (s : List ℕ) (at : ℕ) where
-  pub fetch-unknown : shape_of (opcode_of (get_or s at 0)) ≡ Shape.Unknown → Unknown ≡ fetch_of s at
+  pub fetch-unknown : shape_of (opcode_of (get_or s at 0)) ≡ None → Err Unknown ≡ fetch_of s at
   unfolding fetch_of
   fetch-unknown e = rw (unshaped (get_or s at 0) e)
 
-  pub fetch-outside : length s ≤ at → Unknown ≡ fetch_of s at
+  pub fetch-outside : length s ≤ at → Err Unknown ≡ fetch_of s at
   unfolding fetch_of opcode_of
   fetch-outside h = rw (get_or-eq_default s 0 {n = at} h)
 
-  module _ (x : Operand) (n : ℕ) (has : Bool) (rule : ℕ) (e : shape_of (opcode_of (get_or s at 0)) ≡ Shape.Of x n has rule) where
+  module _ (shape : Shape) (x : Operand) (e : shape_of (opcode_of (get_or s at 0)) ≡ Some shape) (is : shape.operand ≡ x) where
     of_code : Shaped (get_or s at 0) x
-    of_code = shaped (get_or s at 0) x n has rule e
+    of_code = subst (Shaped (get_or s at 0)) is (shaped (get_or s at 0) shape e)
 
     -- an operand that has bytes
     pub fetch-field : fetch_field (operand_at x s (at + 1)) (at + 1 + width x) ≡ fetch_of s at
     unfolding fetch_of
     fetch-field = rw (of_code.1, of_code.2)
 
-  module _ (w n : ℕ) (has : Bool) (rule : ℕ) (e : shape_of (opcode_of (get_or s at 0)) ≡ Shape.Of (Operand.Signed w) n has rule) where
+  module _ (shape : Shape) (w : ℕ) (e : shape_of (opcode_of (get_or s at 0)) ≡ Some shape) (is : shape.operand ≡ Operand.Signed w) where
     pub fetch-signed : (k : ℕ) → w ≡ k → fetch_field (signed_at k s (at + 1)) (at + 1 + k) ≡ fetch_of s at
-    fetch-signed k d = rw (sym d) (fetch-field (Operand.Signed w) n has rule e)
+    fetch-signed k d = rw (sym d) (fetch-field shape (Operand.Signed w) e is)
 
-    pub fetch-plain : at < length s → (w ≡ 8 → ⊥) → (w ≡ 2 → ⊥) → Is (pos 0) (at + 1) ≡ fetch_of s at
+    pub fetch-plain : at < length s → (w ≡ 8 → ⊥) → (w ≡ 2 → ⊥) → Ok (pos 0, at + 1) ≡ fetch_of s at
     fetch-plain h f g =
-        let k = shaped-none (get_or s at 0) w (of_code (Operand.Signed w) n has rule e) f g in
-        rw (k, signed_at-empty s (at + 1) (omega arith), add-zero (at + 1)) at (fetch-field (Operand.Signed w) n has rule e)
+        let k = shaped-none (get_or s at 0) w (of_code shape (Operand.Signed w) e is) f g in
+        rw (k, signed_at-empty s (at + 1) (omega arith), add-zero (at + 1)) at (fetch-field shape (Operand.Signed w) e is)
 
 -- a page is the byte that stands there
 module _ (s : List ℕ) (at : ℕ) where
-  pub page-whole : at < length s → Is (pos (get_or s at 0)) (at + 1) ≡ fetch_field (unsigned_at 1 s at) (at + 1)
+  pub page-whole : at < length s → Ok (pos (get_or s at 0), at + 1) ≡ fetch_field (unsigned_at 1 s at) (at + 1)
   page-whole h = rw (byte-whole s at h)
 
-  pub page-cut : length s ≤ at → Cut ≡ fetch_field (unsigned_at 1 s at) (at + 1)
+  pub page-cut : length s ≤ at → Err Cut ≡ fetch_field (unsigned_at 1 s at) (at + 1)
   page-cut h = rw (byte_cut s at h)
 
   -- and two counts are the two bytes that stand there
   pub counts_whole : at + 2 ≤ length s
-      → Is (counts (pos (get_or s at 0)) (pos (get_or s (at + 1) 0))) (at + 2) ≡ fetch_field (operand_at Operand.Counts s at) (at + 2)
+      → Ok ((counts (pos (get_or s at 0)) (pos (get_or s (at + 1) 0))), (at + 2)) ≡ fetch_field (operand_at Operand.Counts s at) (at + 2)
   counts_whole h = rw (byte-whole s at (omega arith), byte-whole s (at + 1) (omega arith))
 
-  pub counts-cut : length s < at + 2 → Cut ≡ fetch_field (operand_at Operand.Counts s at) (at + 2)
+  pub counts-cut : length s < at + 2 → Err Cut ≡ fetch_field (operand_at Operand.Counts s at) (at + 2)
   counts-cut h = by (unsigned_at 1 s at)
     where
-      by : (f : Field) → Cut ≡ fetch_field (counts_field f (unsigned_at 1 s (at + 1))) (at + 2)
-      by Field.Cut = refl
-      by (Field.Number a) = rw (byte_cut s (at + 1) (omega arith))
+      by : (f : Option ℤ) → Err Cut ≡ fetch_field (counts_field f (unsigned_at 1 s (at + 1))) (at + 2)
+      by None = refl
+      by (Some a) = rw (byte_cut s (at + 1) (omega arith))
 
 -- a number of eight bytes is that of its halves
 module _ (s : List ℕ) (at : ℕ) where
-  pub half-whole : (z : ℤ) → at + 4 ≤ length s → unsigned_at 4 s at ≡ Field.Number z → z ≡ pos (bits_at 4 s at)
+  half-whole : (z : ℤ) → at + 4 ≤ length s → unsigned_at 4 s at ≡ Some z → z ≡ pos (bits_at 4 s at)
   half-whole z h e = number (sym e ∙ unsigned_at-whole 4 s at h)
     where
-      number : {y : ℤ} → Field.Number z ≡ Field.Number y → z ≡ y
+      number : {y : ℤ} → Some z ≡ Some y → z ≡ y
       number e = cc
 
-  pub half-cut : {A : Type 0} → at + 4 ≤ length s → unsigned_at 4 s at ≡ Field.Cut → A
+  pub half-cut : {A : Type 0} → at + 4 ≤ length s → unsigned_at 4 s at ≡ None → A
   half-cut h e = cut-number (sym e ∙ unsigned_at-whole 4 s at h)
     where
-      cut-number : {A : Type 0} {y : ℤ} → Field.Cut ≡ Field.Number y → A
+      cut-number : {A : Type 0} {y : ℤ} → None ≡ Some y → A
       cut-number e = never (cc)
+
+  -- as the code reads it
+  pub half-read : ((i : ℕ) → get_or s i 0 < 256) → (z : ℤ) → at + 4 ≤ length s → unsigned_at 4 s at ≡ Some z
+      → (to_z w64 (of_z w64 z) ≡ pos (bits_at 4 s at)) × (bits_at 4 s at < 4294967296)
+  half-read known z h e =
+      let small = bits_at-lt 4 s at h known in
+      rw (half-whole z h e) (back-ok (pos (bits_at 4 s at)) (omega (arith, small)), omega (arith, small))
 
   halves : at + 8 ≤ length s → bits_at 4 s at + 4294967296 * bits_at 4 s (at + 4) ≡ bits_at 8 s at
   halves h =
@@ -254,10 +264,10 @@ module _ (s : List ℕ) (at : ℕ) where
       ))
 
   pub long-whole : at + 8 ≤ length s
-      → Field.Number (signed 64 (bits_at 4 s at + 4294967296 * bits_at 4 s (at + 4))) ≡ signed_at 8 s at
-  long-whole h = ap (λ n. Field.Number (signed 64 n)) (halves h) ∙ sym (signed_at-whole 8 s at h)
+      → Some (signed 64 (bits_at 4 s at + 4294967296 * bits_at 4 s (at + 4))) ≡ signed_at 8 s at
+  long-whole h = ap (λ n. Some (signed 64 n)) (halves h) ∙ sym (signed_at-whole 8 s at h)
 
-  pub long-cut : length s < at + 8 → Field.Cut ≡ signed_at 8 s at
+  pub long-cut : length s < at + 8 → None ≡ signed_at 8 s at
   long-cut h = sym (signed_at-cut 8 s at h)
 
 -- ════════════════════════════════════════════════════════════════════════════════════════════
@@ -275,29 +285,8 @@ bytes-field Operand.Counts z = by (arguments_of z) (results_of z) (results-small
     by a d h = ap₂ (λ (x y : ℕ). x ∷ y ∷ []) (omega arith) (omega arith)
 
 module _ (code : ℕ) (x : Operand) (s : Shaped code x) (z : ℤ) where
-  pub takes-shaped : takes_of (opcode_of code) z ≡ holds x z
-  takes-shaped = rw (s.1, s.2)
-
   pub encode-shaped : encode_code (opcode_of code) z ≡ code ∷ bytes_of (width x) (field_of x z)
   encode-shaped = rw (s.1, s.2, code_of-opcode_of code s.0 s.1) (ap (λ l. code ∷ l) (bytes-field x z))
 
   pub code-byte : code < 256
   code-byte = omega (arith, code_of-opcode_of code s.0 s.1, code-most s.0)
-
--- pages, by their two ends
-pub below-page : (z : ℤ) → lt_z z (pos 0) ≡ true → is_page z ≡ false
-below-page (pos n) e = absurd (omega (arith, ltb-true n 0 e))
-below-page (negsuc n) e = refl
-
-pub above-page : (z : ℤ) → lt_z z (pos 0) ≡ false → lt_z z (pos 16) ≡ is_page z
-above-page (pos n) e = refl
-above-page (negsuc n) e = never (cc)
-
--- the range of two bytes, by its two ends
-pub below-range : (z : ℤ) → lt_z z (negsuc 32767) ≡ true → is_signed 16 z ≡ false
-below-range (pos n) e = never (cc)
-below-range (negsuc n) e = le-ltb n 32768 (omega (arith, ltb-true 32767 n e))
-
-pub above-range : (z : ℤ) → lt_z z (negsuc 32767) ≡ false → lt_z z (pos 32768) ≡ is_signed 16 z
-above-range (pos n) e = refl
-above-range (negsuc n) e = sym (lt-ltb n 32768 (omega (arith, ltb-false 32767 n e)))

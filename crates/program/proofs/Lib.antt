@@ -2,6 +2,7 @@ pub mod Counting
 pub mod Codes
 pub mod Naming
 pub mod Spelling
+pub mod Putting
 pub mod Ranges
 pub mod Decode
 pub mod Fetching

@@ -1,6 +1,7 @@
 -- Writing a program command by command: what is left to write, laid from the next word on, gives the whole space. And what is written of an
 -- accepted program that fits is the program.
 -- Assumes nothing.
+use Rattle.std.proofs.Common.{Err, Ok}
 use mathlib.Core.Path.{◌≡◌, refl, sym, ap, ◌∙◌}
 use mathlib.Core.Bool.{Bool, true, false}
 use mathlib.Core.List.{List, [], ◌∷◌}
@@ -13,7 +14,6 @@ use Rattle.word.specs.Lay.{laid, laid_at}
 use Rattle.word.proofs.Lay.{laid_at-nil, laid_at-zero, laid_at-cons}
 use Rattle.program.specs.declared.Command.{Command}
 use Rattle.program.specs.declared.Refusal.{Refusal}
-use Rattle.program.specs.declared.Fetched.TheVariants.{Is, Unknown, Cut}
 use Rattle.program.specs.Command.{opcode_of}
 use Rattle.program.specs.Decode.{First, unknown, cut, whole, first_opcode, Decoded, refused, accepted, refusal, prepend, permits}
 use Rattle.program.specs.Decode.{decode_if, decode_first, decode_from, decode, command_limit}
@@ -21,6 +21,8 @@ use Rattle.program.specs.Fetch.{fetch_of}
 use Rattle.program.specs.Space.{program_words, take_first, readable, write_space}
 use Rattle.program.proofs.Codes.{opcode-command}
 use Rattle.program.proofs.Fetching.{Next, fetched-next, readable-unknown, readable-cut, readable-next}
+use Rattle.program.specs.declared.Fault.{Fault}
+use Rattle.program.specs.declared.Fault.TheVariants.{Unknown, Cut}
 
 -- ════════════════════════════════════════════════════════════════════════════════════════════
 -- Command by command
@@ -77,13 +79,17 @@ module _ (s : List ℕ) (old space : List ℤ) (at i : ℕ) (w : Writing s old s
     unfolding left
     left-suc = let f = w.full in omega arith
 
-    pub writing-unknown : fetch_of s at ≡ Unknown → space ≡ write_space s old
+    writing-unknown : fetch_of s at ≡ Err Unknown → space ≡ write_space s old
     writing-unknown e = nothing (ap (λ n. readable n (drop at s)) left-suc ∙ readable-unknown s at h left e)
 
-    pub writing-cut : fetch_of s at ≡ Cut → space ≡ write_space s old
+    writing-cut : fetch_of s at ≡ Err Cut → space ≡ write_space s old
     writing-cut e = nothing (ap (λ n. readable n (drop at s)) left-suc ∙ readable-cut s at h left e)
 
-    module _ (z : ℤ) (next : ℕ) (e : fetch_of s at ≡ Is z next) where
+    pub writing-fault : (fault : Fault) → fetch_of s at ≡ Err fault → space ≡ write_space s old
+    writing-fault Unknown e = writing-unknown e
+    writing-fault Cut e = writing-cut e
+
+    module _ (z : ℤ) (next : ℕ) (e : fetch_of s at ≡ Ok (z, next)) where
       now : Next s at z next
       now = fetched-next s at h z next e
 

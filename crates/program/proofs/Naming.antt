@@ -1,10 +1,10 @@
 -- Names: a name stands for the one opcode that has it; two names whose bytes are letters are the same where their words are; and a name's
 -- letters are given back by its word.
 -- Assumes nothing.
+use Rattle.std.proofs.Common.{None, Option, Some}
 use mathlib.Core.Path.{◌≡◌, refl, sym, ap, ap₂, ◌∙◌}
 use mathlib.Core.Bool.{Bool, true, false, ◌&&◌}
 use mathlib.Core.List.{List, [], ◌∷◌, ◌++◌, reverse, reverse_aux, reverse-append, reverse-reverse}
-use mathlib.Core.Option.{Option, none, some}
 use Prim.Native.Nat.{ℕ, zero, suc, ◌+◌, ◌*◌, ◌^◌, ◌<◌, ◌≤◌}
 use native.Mathlib.Nat.{pow-zero, pow-suc, add_comm}
 use native.Mathlib.Omega.{arith}
@@ -150,7 +150,7 @@ packed-test a b s t =
     (λ e. rw (packed-same a b s t (eqb→eq (packed a) (packed b) e)) (same-itself b))
     (λ e. rw (same-equal a b e) (eqb_refl (packed b)))
 
-first-none : (p : Opcode → Bool) (os : List Opcode) → ((o : Opcode) → p o ≡ false) → first_that p os ≡ none
+first-none : (p : Opcode → Bool) (os : List Opcode) → ((o : Opcode) → p o ≡ false) → first_that p os ≡ None
 first-none p [] h = refl
 first-none p (o ∷ os) h = rw (h o) (first-none p os h)
 
@@ -172,15 +172,15 @@ code_named-packed m t =
     ap code_or (first-same (λ o. eqb (packed (letters o)) (packed m)) (λ o. same_text (letters o) m) opcodes
     (λ o. packed-test (letters o) m (name-letters o) t))
 
-opcode_named-none : (m : List ℕ) → ((o : Opcode) → letters o ≡ m → ⊥) → opcode_named m ≡ none
+opcode_named-none : (m : List ℕ) → ((o : Opcode) → letters o ≡ m → ⊥) → opcode_named m ≡ None
 unfolding opcode_named
 opcode_named-none m h = first-none (λ o. same_text (letters o) m) opcodes (λ o. not_same (letters o) m (h o))
 
 -- what is longer than every name, or not letters only, is none
-pub opcode_named-long : (m : List ℕ) → 8 < length m → opcode_named m ≡ none
+pub opcode_named-long : (m : List ℕ) → 8 < length m → opcode_named m ≡ None
 opcode_named-long m h = opcode_named-none m (λ o e. omega (arith, ap length e, name-short o))
 
-pub opcode_named-other : (m : List ℕ) → (T (all_letters m) → ⊥) → opcode_named m ≡ none
+pub opcode_named-other : (m : List ℕ) → (T (all_letters m) → ⊥) → opcode_named m ≡ None
 opcode_named-other m h = opcode_named-none m (λ o e. h (rw e at (name-letters o)))
 
 -- 0 is no name's word
@@ -192,5 +192,5 @@ code_named-zero =
 -- an opcode is found under the code of its name
 pub opcode_of-code_or : (x : Option Opcode) → opcode_of (code_or x) ≡ x
 unfolding opcode_of
-opcode_of-code_or none = refl
-opcode_of-code_or (some o) = opcode_of-code_of o
+opcode_of-code_or None = refl
+opcode_of-code_or (Some o) = opcode_of-code_of o

@@ -1,9 +1,9 @@
 -- Names: the letters of an opcode's name stand for it, and for no other; and the code of a name is found by a guess that is tested.
 -- Assumes nothing.
+use Rattle.std.proofs.Common.{None, Option, Some}
 use mathlib.Core.Path.{◌≡◌, refl, sym, ap, ◌∙◌}
 use mathlib.Core.Bool.{Bool, true, false}
 use mathlib.Core.List.{List, [], ◌∷◌}
-use mathlib.Core.Option.{Option, none, some}
 use Prim.Native.Nat.{ℕ, ◌+◌, ◌/◌, ◌%◌}
 use native.Mathlib.Omega.{arith}
 use lib.Dec.{eqb, eqb→eq}
@@ -17,28 +17,28 @@ use Rattle.program.proofs.Codes.{opcode_of-code_of, code_of-opcode_of, opcode-al
 use Rattle.program.proofs.Naming.{name-letters, same-equal, code_named-none, code_named-zero, code_named-packed}
 
 -- an opcode with a code is the one opcode with that code
-code_or-some : (x : Option Opcode) (o : Opcode) → code_or x ≡ code_of o → x ≡ some o
-code_or-some none o e = absurd (omega (arith, code-least o))
-code_or-some (some p) o e = sym (opcode_of-code_of p) ∙ ap opcode_of e ∙ opcode_of-code_of o
+code_or-some : (x : Option Opcode) (o : Opcode) → code_or x ≡ code_of o → x ≡ Some o
+code_or-some None o e = absurd (omega (arith, code-least o))
+code_or-some (Some p) o e = sym (opcode_of-code_of p) ∙ ap opcode_of e ∙ opcode_of-code_of o
 
 -- a name stands for the opcode that has it
-pub named-letters : (o : Opcode) → opcode_named (letters o) ≡ some o
+pub named-letters : (o : Opcode) → opcode_named (letters o) ≡ Some o
 unfolding opcode_named
 named-letters o =
     code_or-some (opcode_named (letters o)) o
     (eqb→eq (code_or (opcode_named (letters o))) (code_of o)
     (opcode-all (λ o. eqb (code_or (opcode_named (letters o))) (code_of o)) tt o))
 
-first_passes : (p : Opcode → Bool) (os : List Opcode) (o : Opcode) → first_that p os ≡ some o → p o ≡ true
+first_passes : (p : Opcode → Bool) (os : List Opcode) (o : Opcode) → first_that p os ≡ Some o → p o ≡ true
 first_passes p [] o e = never (cc)
 first_passes p (x ∷ os) o e = by (p x) refl e (first_passes p os o)
   where
-    by : (t : Bool) → p x ≡ t → choose t (some x) (first_that p os) ≡ some o → (first_that p os ≡ some o → p o ≡ true) → p o ≡ true
+    by : (t : Bool) → p x ≡ t → choose t (Some x) (first_that p os) ≡ Some o → (first_that p os ≡ Some o → p o ≡ true) → p o ≡ true
     by true f e g = let d : o ≡ x = cc in ap p d ∙ f
     by false f e g = g e
 
 -- a name that stands for an opcode is its letters
-pub letters-named : (name : List ℕ) (o : Opcode) → opcode_named name ≡ some o → letters o ≡ name
+pub letters-named : (name : List ℕ) (o : Opcode) → opcode_named name ≡ Some o → letters o ≡ name
 unfolding opcode_named
 letters-named name o e = same-equal (letters o) name (rw (first_passes (λ o. same_text (letters o) name) opcodes o e) tt)
 
@@ -69,8 +69,8 @@ module _ (word : ℕ) where
   guess-named e = by (opcode_of (guess word)) refl e
     where
       by : (x : Option Opcode) → opcode_of (guess word) ≡ x → (name_of x).word ≡ word → guess word ≡ code_named word
-      by none d e = sym (ap guess e) ∙ sym code_named-zero ∙ ap code_named e
-      by (some o) d e = sym (code_of-opcode_of (guess word) o d) ∙ sym (named-code o) ∙ ap code_named e
+      by None d e = sym (ap guess e) ∙ sym code_named-zero ∙ ap code_named e
+      by (Some o) d e = sym (code_of-opcode_of (guess word) o d) ∙ sym (named-code o) ∙ ap code_named e
 
   -- and where it is not, no name is
   pub guess-other : ((name_of (opcode_of (guess word))).word ≡ word → ⊥) → 0 ≡ code_named word

@@ -1,9 +1,7 @@
 -- The commands of document 01, OutputTo of request U4, CallN and RetV of request U6: the table of them, and how a command is put together
 -- from its opcode and its operand.
-use Rattle.std.specs.Prelude.{ℕ, zero, suc, ◌+◌, ◌*◌, ◌/◌, ◌%◌, Bool, true, false, ◌&&◌, List, [], ◌∷◌, ℤ, pos, negsuc, ltb}
+use Rattle.std.specs.Prelude.{ℕ, zero, suc, ◌+◌, ◌*◌, ◌/◌, ◌%◌, Bool, true, false, ◌&&◌, List, [], ◌∷◌, ℤ, pos, negsuc, ltb, None, Option, slice_get}
 use Prim.Native.String.{String}
-use Rattle.std.proofs.Math.Option.{Option, none}
-use Rattle.std.proofs.Math.ListN.{get_elem?}
 use Rattle.word.specs.Choose.{choose}
 use Rattle.word.specs.Exact.{is_signed}
 use Rattle.word.specs.Text.{ascii}
@@ -27,8 +25,8 @@ ruled = add ∷ sub ∷ pop ∷ output ∷ push ∷ load ∷ store ∷ jump ∷ 
 
 -- the opcode that has a code
 unfoldable pub opcode_of : ℕ → Option Opcode
-opcode_of zero = none
-opcode_of (suc i) = get_elem? opcodes i
+opcode_of zero = None
+opcode_of (suc i) = slice_get opcodes i
 
 -- ════════════════════════════════════════════════════════════════════════════════════════════
 -- The table of commands

@@ -1,14 +1,10 @@
 -- Reading a program (document 01: a sheet) from bytes: its commands, or the first refusal. Checks 1 to 3, 12 and 14.
-use Rattle.std.specs.Prelude.{ℕ, zero, suc, ◌+◌, Bool, true, false, List, [], ◌∷◌, length, drop, ℤ}
-use Rattle.std.proofs.Math.Option.{Option, none, some}
-use Rattle.word.specs.declared.field.Field.{Field}
-use Rattle.word.specs.declared.field.Field.TheVariants.{Number, Cut}
+use Rattle.std.specs.Prelude.{ℕ, zero, suc, ◌+◌, Bool, true, false, List, [], ◌∷◌, ◌++◌, codes, decimal, length, drop, ℤ, Err, None, Ok, Option, Result, Some}
 use Rattle.word.specs.Field.{unsigned_at, signed_at}
 use Rattle.program.specs.declared.Command.{Command}
 use Rattle.program.specs.declared.Operand.{Operand}
 use Rattle.program.specs.declared.Operand.TheVariants.{Signed, Page, Counts}
 use Rattle.program.specs.declared.Refusal.{Refusal}
-use Rattle.program.specs.declared.Checked.{Checked}
 use Rattle.program.specs.Command.{Opcode, opcode_of, operand_of, operand_width, is_page, is_counts, counts, opcode, operand, command}
 
 pub data Decoded : Type 0 where
@@ -19,18 +15,22 @@ pub data Decoded : Type 0 where
 abbrev pub refusal : ℕ → ℕ → Refusal
 refusal code position = record { code = code; position = position }
 
+-- and what is printed of one
+abbrev pub refusal_text : Refusal → List ℕ
+refusal_text r = codes "refused " ++ (decimal r.code ++ (32 ∷ decimal r.position))
+
 abbrev pub prepend : Command → Decoded → Decoded
 prepend c (refused r) = refused r
 prepend c (accepted cs) = accepted (c ∷ cs)
 
 -- the word of the two counts that two fields are
-abbrev pub counts_field : Field → Field → Field
-counts_field Cut f = Cut
-counts_field (Number a) Cut = Cut
-counts_field (Number a) (Number d) = Number (counts a d)
+abbrev pub counts_field : Option ℤ → Option ℤ → Option ℤ
+counts_field None f = None
+counts_field (Some a) None = None
+counts_field (Some a) (Some d) = Some (counts a d)
 
 -- the operand that stands at a position: a signed number; or a page, which is an unsigned byte; or two counts, an unsigned byte each
-abbrev pub operand_at : Operand → List ℕ → ℕ → Field
+abbrev pub operand_at : Operand → List ℕ → ℕ → Option ℤ
 operand_at (Signed k) bytes at = signed_at k bytes at
 operand_at Page bytes at = unsigned_at 1 bytes at
 operand_at Counts bytes at = counts_field (unsigned_at 1 bytes at) (unsigned_at 1 bytes (at + 1))
@@ -40,13 +40,13 @@ pub data First : Type 0 where
   unknown cut : First
   whole : Command → ℕ → First
 
-abbrev pub first_operand : Opcode → Field → First
-first_operand o Cut = cut
-first_operand o (Number z) = whole (command o z) (operand_width o)
+abbrev pub first_operand : Opcode → Option ℤ → First
+first_operand o None = cut
+first_operand o (Some z) = whole (command o z) (operand_width o)
 
 abbrev pub first_opcode : Option Opcode → List ℕ → First
-first_opcode none bytes = unknown
-first_opcode (some o) bytes = first_operand o (operand_at (operand_of o) bytes 0)
+first_opcode None bytes = unknown
+first_opcode (Some o) bytes = first_operand o (operand_at (operand_of o) bytes 0)
 
 -- may a command have its operand? A page is at most 15; arguments are too, and results at most 1
 abbrev pub permitted : Operand → ℤ → Bool
@@ -89,6 +89,6 @@ unfoldable pub decode : List ℕ → Decoded
 decode bytes = decode_from command_limit 0 bytes
 
 -- what the check answers: how many commands there are, or the refusal
-abbrev pub check_answer : Decoded → Checked
-check_answer (refused r) = Checked.Refused r
-check_answer (accepted cs) = Checked.Accepted (length cs)
+abbrev pub check_answer : Decoded → Result ℕ Refusal
+check_answer (refused r) = Err r
+check_answer (accepted cs) = Ok (length cs)

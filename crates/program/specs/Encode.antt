@@ -1,6 +1,5 @@
 -- Writing a program as bytes.
-use Rattle.std.specs.Prelude.{ℕ, zero, suc, ◌*◌, ◌%◌, true, ◌≡◌, List, [], ◌∷◌, ◌++◌, ℤ, pos}
-use Rattle.std.proofs.Math.Option.{Option, none, some}
+use Rattle.std.specs.Prelude.{ℕ, zero, suc, ◌*◌, ◌%◌, true, ◌≡◌, List, [], ◌∷◌, ◌++◌, ℤ, pos, None, Option, Some}
 use Rattle.word.specs.Field.{bytes_of}
 use Rattle.word.specs.Wrap as Wrap
 use Rattle.program.specs.declared.Command.{Command}
@@ -46,5 +45,5 @@ encode (c ∷ cs) = encode_command c ++ encode cs
 
 -- what a code stands for with an operand; no bytes where it stands for nothing
 abbrev pub encode_code : Option Opcode → ℤ → List ℕ
-encode_code none z = []
-encode_code (some o) z = encode_opcode o z
+encode_code None z = []
+encode_code (Some o) z = encode_opcode o z

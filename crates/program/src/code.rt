@@ -1,4 +1,4 @@
-// The codes of the commands: those of `description` in specs/Command.antt.
+// The codes of the commands: those of `description` in specs/Command.antt. No enum: they are the bytes of sheets and of the C interface.
 pub const ADD: u64 = 0x01;
 
 pub const SUB: u64 = 0x02;

@@ -4,25 +4,22 @@
 pub mod code;
 pub mod names;
 
-ghost use Rattle.std.specs.Prelude.{◌≡◌, ◌+◌, ◌<◌, ◌≤◌, length, get_or};
-ghost use Rattle.program.specs.Decode.{decode, operand_at, check_answer};
+ghost use Rattle.std.specs.Prelude.{◌≡◌, ◌+◌, ◌<◌, ◌≤◌, length, get_or, Some};
+ghost use Rattle.program.specs.Decode.{decode, operand_at, refusal, refusal_text, check_answer};
 ghost use Rattle.program.specs.Command.{opcode_of, width, is_page, arguments_of, results_of, is_counts};
 ghost use Rattle.program.specs.Command.{counts as counts_of};
 ghost use Rattle.program.specs.declared.Operand.TheVariants.{Counts};
 ghost use Rattle.word.specs.Text.{put_answer, put_out};
 ghost use Rattle.program.specs.Encode.{encode_code};
-ghost use Rattle.word.specs.Field.{bits_at, unsigned_at, signed_at};
-ghost use Rattle.word.specs.Wrap.{signed as signed_of};
-ghost use Rattle.program.specs.Fetch.{shape_of, takes_of, permits_of, refuses_of, field_of, fetch_field, fetch_of};
+ghost use Rattle.word.specs.Field.{unsigned_at, signed_at};
+ghost use Rattle.program.specs.Fetch.{shape_of, takes_of, permits_of, refuses_of, faults_of, field_of, fetch_field, fetch_of};
 ghost use Rattle.program.specs.Name.{name_of, code_named};
 ghost use Rattle.program.specs.Space.{write_space};
 
-use word::field::Field;
-use word::number::{Index, Natural};
-use word::text::Put;
+use std::fmt;
 
 // A command of documents 01 and 02, with its operand where it has one: what the definitions speak of.
-#[derive(Drop)]
+#[derive(Clone, Copy, PartialEq, Eq, Debug)]
 pub enum Command {
     Add,
     Sub,
@@ -40,22 +37,33 @@ pub enum Command {
     RetV,
 }
 
-// A refusal of document 01: its number and its place.
-#[derive(Drop)]
+// A refusal of document 01: its number and its place. The number is no enum, since the definitions (`limits`, `check_of`) and the claim `Checks`
+// speak of it.
+#[derive(Clone, Copy, PartialEq, Eq, Debug)]
 pub struct Refusal {
     pub code: u64,
     pub position: usize,
 }
 
-// The answer to a check of a program: how many commands it has, or why it is refused.
-#[derive(Drop)]
-pub enum Checked {
-    Accepted(usize),
-    Refused(Refusal),
+impl Refusal {
+    pub fn new(code: u64, position: usize) -> Refusal
+        ensures { result ≡ refusal code position }
+    {
+        Refusal { code, position }
+    }
 }
 
-// A command's name as a word: its letters as digits in base 256, the first the highest; and how many letters it has.
-#[derive(Drop)]
+impl fmt::Display for Refusal {
+    ghost output = { λ r. Some (refusal_text r) };
+
+    fn fmt<W: fmt::Write>(&self, f: &mut fmt::Formatter<W>) -> fmt::Result {
+        write!(f, "refused {} {}", self.code, self.position)
+    }
+}
+
+// A command's name as a word: its letters as digits in base 256, the first the highest; and how many letters it has. Words, and no slices of
+// bytes, since those take up to 1.35 of the time in reading and 2.6 in listing.
+#[derive(Clone, Copy, PartialEq, Eq, Debug)]
 pub struct Name {
     pub word: u64,
     pub length: usize,
@@ -63,7 +71,7 @@ pub struct Name {
 
 // A command's operand: a signed number of so many bytes, of none where there is no operand; a page, an unsigned byte from 0 to 15; or
 // two counts, an unsigned byte each: how many arguments, 0 to 15, and how many results, 0 or 1.
-#[derive(Clone, Copy)]
+#[derive(Clone, Copy, PartialEq, Eq, Debug)]
 pub enum Operand {
     Signed(usize),
     Page,
@@ -72,105 +80,85 @@ pub enum Operand {
 
 // What the table of commands says of a code: its operand, how many inputs are supplied, whether there is a result, and the number of its
 // rule in a rule table.
-#[derive(Clone, Copy)]
-pub enum Shape {
-    Of(Operand, usize, bool, usize),
-    Unknown,
+#[derive(Clone, Copy, PartialEq, Eq, Debug)]
+pub struct Shape {
+    pub operand: Operand,
+    pub inputs: usize,
+    pub result: bool,
+    pub rule: usize,
 }
 
-// The command at a position: its operand, or 0, and the position after it; or that it is unknown, or cut.
-#[derive(Drop)]
-pub enum Fetched {
-    Is(i64, usize),
+// Why there is no command at a position: its code is none, or its operand is cut.
+#[derive(Clone, Copy, PartialEq, Eq, Debug)]
+pub enum Fault {
     Unknown,
     Cut,
 }
 
+// A row of the table of commands.
+fn row(operand: Operand, inputs: usize, has: bool, rule: usize) -> Option<Shape>
+    ensures { result ≡ Some (record { operand = operand; inputs = inputs; result = has; rule = rule }) }
+{
+    Some(Shape {
+        operand,
+        inputs,
+        result: has,
+        rule,
+    })
+}
+
 // The table of commands.
-pub fn shape_of(code: u64) -> Shape
+#[tactic(auto, unfolding(crate::specs::Command::opcode_of))]
+pub fn shape_of(code: u64) -> Option<Shape>
     ensures { result ≡ shape_of (opcode_of code) }
 {
     match code {
-        code::ADD => Shape::Of(Operand::Signed(0), 2, true, 0),
-        code::SUB => Shape::Of(Operand::Signed(0), 2, true, 1),
-        code::POP => Shape::Of(Operand::Signed(0), 1, false, 2),
-        code::OUTPUT => Shape::Of(Operand::Signed(0), 1, true, 3),
-        code::PUSH => Shape::Of(Operand::Signed(8), 0, true, 4),
-        code::LOAD => Shape::Of(Operand::Signed(0), 2, true, 5),
-        code::STORE => Shape::Of(Operand::Signed(0), 3, true, 6),
-        code::JUMP => Shape::Of(Operand::Signed(0), 1, false, 7),
-        code::BNZ => Shape::Of(Operand::Signed(2), 1, false, 8),
-        code::CALL => Shape::Of(Operand::Signed(0), 1, true, 9),
-        code::RET => Shape::Of(Operand::Signed(0), 1, false, 10),
-        code::OUTPUT_TO => Shape::Of(Operand::Page, 1, true, 3),
-        code::CALL_N => Shape::Of(Operand::Counts, 1, true, 9),
-        code::RET_V => Shape::Of(Operand::Signed(0), 2, true, 11),
-        _ => Shape::Unknown,
+        code::ADD => row(Operand::Signed(0), 2, true, 0),
+        code::SUB => row(Operand::Signed(0), 2, true, 1),
+        code::POP => row(Operand::Signed(0), 1, false, 2),
+        code::OUTPUT => row(Operand::Signed(0), 1, true, 3),
+        code::PUSH => row(Operand::Signed(8), 0, true, 4),
+        code::LOAD => row(Operand::Signed(0), 2, true, 5),
+        code::STORE => row(Operand::Signed(0), 3, true, 6),
+        code::JUMP => row(Operand::Signed(0), 1, false, 7),
+        code::BNZ => row(Operand::Signed(2), 1, false, 8),
+        code::CALL => row(Operand::Signed(0), 1, true, 9),
+        code::RET => row(Operand::Signed(0), 1, false, 10),
+        code::OUTPUT_TO => row(Operand::Page, 1, true, 3),
+        code::CALL_N => row(Operand::Counts, 1, true, 9),
+        code::RET_V => row(Operand::Signed(0), 2, true, 11),
+        _ => None,
     }
 }
 
+// A name by its word.
+fn named(word: u64, length: usize) -> Name
+    ensures { result ≡ record { word = word; length = length } }
+{
+    Name { word, length }
+}
+
 // The name that the table gives a code; 0, with no letters, where there is none.
+#[tactic(auto, unfolding(crate::specs::Command::opcode_of, crate::specs::Name::packed, word::specs::Digits::value_of))]
 pub fn name_of(code: u64) -> Name
     ensures { result ≡ name_of (opcode_of code) }
 {
     match code {
-        code::ADD => Name {
-            word: names::ADD,
-            length: 3,
-        },
-        code::SUB => Name {
-            word: names::SUB,
-            length: 3,
-        },
-        code::POP => Name {
-            word: names::POP,
-            length: 3,
-        },
-        code::OUTPUT => Name {
-            word: names::OUTPUT,
-            length: 6,
-        },
-        code::PUSH => Name {
-            word: names::PUSH,
-            length: 4,
-        },
-        code::LOAD => Name {
-            word: names::LOAD,
-            length: 4,
-        },
-        code::STORE => Name {
-            word: names::STORE,
-            length: 5,
-        },
-        code::JUMP => Name {
-            word: names::JUMP,
-            length: 4,
-        },
-        code::BNZ => Name {
-            word: names::BNZ,
-            length: 3,
-        },
-        code::CALL => Name {
-            word: names::CALL,
-            length: 4,
-        },
-        code::RET => Name {
-            word: names::RET,
-            length: 3,
-        },
-        code::OUTPUT_TO => Name {
-            word: names::OUTPUT_TO,
-            length: 8,
-        },
-        code::CALL_N => Name {
-            word: names::CALL_N,
-            length: 5,
-        },
-        code::RET_V => Name {
-            word: names::RET_V,
-            length: 4,
-        },
-        _ => Name { word: 0, length: 0 },
+        code::ADD => named(names::ADD, 3),
+        code::SUB => named(names::SUB, 3),
+        code::POP => named(names::POP, 3),
+        code::OUTPUT => named(names::OUTPUT, 6),
+        code::PUSH => named(names::PUSH, 4),
+        code::LOAD => named(names::LOAD, 4),
+        code::STORE => named(names::STORE, 5),
+        code::JUMP => named(names::JUMP, 4),
+        code::BNZ => named(names::BNZ, 3),
+        code::CALL => named(names::CALL, 4),
+        code::RET => named(names::RET, 3),
+        code::OUTPUT_TO => named(names::OUTPUT_TO, 8),
+        code::CALL_N => named(names::CALL_N, 5),
+        code::RET_V => named(names::RET_V, 4),
+        _ => named(0, 0),
     }
 }
 
@@ -179,56 +167,44 @@ pub fn code_of(word: u64) -> u64
     ensures { result ≡ code_named word }
 {
     let guess = names::GUESSES[((word / 256 + word / 32768) % 32) as usize];
-    let name = name_of(guess);
-    if name.word == word { guess } else { 0 }
+    if name_of(guess).word == word {
+        guess
+    } else {
+        0
+    }
 }
 
 // Pages are 0 to 15.
 fn is_page(number: i64) -> bool
     ensures { result ≡ is_page number }
 {
-    if number < 0 {
-        return false;
-    }
-    number < 16
+    0 <= number && number < 16
 }
 
 // How many arguments an operand word of two counts says; of a negative word none. So the results.
 pub fn arguments_of(word: i64) -> u64
     ensures { result ≡ arguments_of word }
 {
-    let number = word::number::unsigned(word);
-    match number {
-        Natural::Of(n) => n / 16,
-        Natural::Negative => 0,
-    }
+    word::number::unsigned(word).map_or(0, |n| n / 16)
 }
 
 // How many results it says.
 pub fn results_of(word: i64) -> u64
     ensures { result ≡ results_of word }
 {
-    let number = word::number::unsigned(word);
-    match number {
-        Natural::Of(n) => n % 16,
-        Natural::Negative => 0,
-    }
+    word::number::unsigned(word).map_or(0, |n| n % 16)
 }
 
-// The operand word of two counts: 16 for each argument, and the results; -1 where one of the two is out of range.
+// The operand word of two counts: 16 for each argument, and the results; -1, as in the definition, where one of the two is out of range.
 pub fn counts(arguments: i64, results: i64) -> i64
     ensures { result ≡ counts_of arguments results }
 {
-    let first = word::number::below(arguments, 16);
-    match first {
-        Index::Outside => -1,
-        Index::At(a) => {
-            let second = word::number::below(results, 2);
-            match second {
-                Index::Outside => -1,
-                Index::At(d) => (16 * a + d) as i64,
-            }
-        }
+    match (
+        word::number::below(arguments, 16),
+        word::number::below(results, 2),
+    ) {
+        (Some(a), Some(d)) => (16 * a + d) as i64,
+        _ => -1,
     }
 }
 
@@ -236,170 +212,121 @@ pub fn counts(arguments: i64, results: i64) -> i64
 fn is_counts(word: i64) -> bool
     ensures { result ≡ is_counts word }
 {
-    let number = word::number::below(word, 256);
-    match number {
-        Index::Outside => false,
-        Index::At(n) => n % 16 < 2,
-    }
+    word::number::below(word, 256).is_some_and(|n| n % 16 < 2)
 }
 
 // Is a number in the range of a code's operand? No number is where there is no operand.
 pub fn takes(code: u64, number: i64) -> bool
     ensures { result ≡ takes_of (opcode_of code) number }
 {
-    let shape = shape_of(code);
-    match shape {
-        Shape::Unknown => false,
-        Shape::Of(operand, _, _, _) => match operand {
-            Operand::Page => is_page(number),
-            Operand::Counts => is_counts(number),
-            Operand::Signed(width) => {
-                if width == 8 {
-                    return true;
-                }
-                if width == 2 {
-                    if number < -32768 {
-                        return false;
-                    }
-                    return number < 32768;
-                }
-                false
-            }
-        },
+    let Some(shape) = shape_of(code) else {
+        return false;
+    };
+    match shape.operand {
+        Operand::Page => is_page(number),
+        Operand::Counts => is_counts(number),
+        Operand::Signed(8) => true,
+        Operand::Signed(2) => -32768 <= number && number < 32768,
+        Operand::Signed(_) => false,
     }
 }
 
 // May a command of this shape have this operand? A page is 0 to 15; so are arguments, and results are 0 or 1.
-fn permits(shape: Shape, operand: i64) -> bool
+fn permits(shape: Option<Shape>, operand: i64) -> bool
     ensures { result ≡ permits_of shape operand }
 {
-    match shape {
-        Shape::Unknown => true,
-        Shape::Of(kind, _, _, _) => match kind {
-            Operand::Signed(_) => true,
-            Operand::Page => is_page(operand),
-            Operand::Counts => is_counts(operand),
-        },
+    let Some(shape) = shape else {
+        return true;
+    };
+    match shape.operand {
+        Operand::Signed(_) => true,
+        Operand::Page => is_page(operand),
+        Operand::Counts => is_counts(operand),
     }
 }
 
 // The number of the check that refuses it, where it may not.
-fn check_of(shape: Shape) -> u64
+fn check_of(shape: Option<Shape>) -> u64
     ensures { result ≡ refuses_of shape }
 {
-    match shape {
-        Shape::Unknown => 12,
-        Shape::Of(kind, _, _, _) => match kind {
-            Operand::Signed(_) => 12,
-            Operand::Page => 12,
-            Operand::Counts => 14,
-        },
+    let Some(shape) = shape else {
+        return 12;
+    };
+    match shape.operand {
+        Operand::Signed(_) | Operand::Page => 12,
+        Operand::Counts => 14,
     }
 }
 
-// A field read as an operand that ends at `next`.
-fn with_field(field: Field, next: usize) -> Fetched
+// The number of the check that refuses bytes where there is no command.
+fn check_for(fault: Fault) -> u64
+    ensures { result ≡ faults_of fault }
+{
+    match fault {
+        Fault::Unknown => 2,
+        Fault::Cut => 3,
+    }
+}
+
+// A field read as an operand that ends at `next`. No `Option` here and below: by one `check` and `write` took more instructions, measured.
+fn with_field(field: Option<i64>, next: usize) -> Result<(i64, usize), Fault>
     ensures { result ≡ fetch_field field next }
 {
-    match field {
-        Field::Number(z) => Fetched::Is(z, next),
-        Field::Cut => Fetched::Cut,
-    }
+    Ok((field.ok_or(Fault::Cut)?, next))
 }
 
 // A page as an operand: its byte is looked at here, where it costs least, so that the compiler puts `fetch` into its callers.
-fn page_at(bytes: &[u8], at: usize) -> Fetched
+fn page_at(bytes: &[u8], at: usize) -> Result<(i64, usize), Fault>
     ensures { result ≡ fetch_field (unsigned_at 1 bytes.now at) (at + 1) }
 {
-    if at < bytes.len() {
-        Fetched::Is(bytes[at] as i64, at + 1)
-    } else {
-        Fetched::Cut
-    }
+    let page = *bytes.get(at).ok_or(Fault::Cut)?;
+    Ok((page as i64, at + 1))
 }
 
 // Two counts as an operand, likewise.
-fn counts_at(bytes: &[u8], at: usize) -> Fetched
-    requires { at ≤ length bytes.now }
+fn counts_at(bytes: &[u8], at: usize) -> Result<(i64, usize), Fault>
     ensures { result ≡ fetch_field (operand_at Counts bytes.now at) (at + 2) }
 {
-    if bytes.len() - at < 2 {
-        return Fetched::Cut;
-    }
-    let arguments = bytes[at] as i64;
-    let results = bytes[at + 1] as i64;
-    Fetched::Is(counts(arguments, results), at + 2)
+    let arguments = *bytes.get(at).ok_or(Fault::Cut)?;
+    let results = *bytes.get(at + 1).ok_or(Fault::Cut)?;
+    Ok((counts(arguments as i64, results as i64), at + 2))
 }
 
 // A signed number of eight bytes at an offset, by its halves, of which the compiler makes one word before it decides where `fetch` goes;
-// eight bytes one by one, as `word::field::i64_at` reads them, are too many to it.
-fn long_at(bytes: &[u8], at: usize) -> Field
+// eight bytes one by one, as `word::field::signed_at::<i64>` reads them, are too many to it.
+fn long_at(bytes: &[u8], at: usize) -> Option<i64>
     requires { at ≤ length bytes.now }
     ensures { result ≡ signed_at 8 bytes.now at }
 {
     if bytes.len() - at < 8 {
-        return Field::Cut;
+        return None;
     }
-    let low = half_at(bytes, at);
-    let high = half_at(bytes, at + 4);
-    Field::Number(signed(low + 4294967296 * high))
-}
-
-// The number in four bytes.
-fn half_at(bytes: &[u8], at: usize) -> u64
-    requires { at + 4 ≤ length bytes.now }
-    ensures { result ≡ bits_at 4 bytes.now at }
-{
-    let field = word::field::u32_at(bytes, at);
-    match field {
-        Field::Number(z) => z as u64,
-        Field::Cut => 0,
-    }
-}
-
-// The number that the bits of a word stand for.
-fn signed(bits: u64) -> i64
-    ensures { result ≡ signed_of 64 bits }
-{
-    if bits < 9223372036854775808 {
-        bits as i64
-    } else {
-        -1 - (u64::MAX - bits) as i64
-    }
+    let low = word::field::u32_at(bytes, at)? as u64;
+    let high = word::field::u32_at(bytes, at + 4)? as u64;
+    Some((low + 4294967296 * high).cast_signed())
 }
 
 // The command at a position, whatever its operand; beyond the end it is unknown.
-pub fn command_at(bytes: &[u8], at: usize) -> Fetched
+pub fn command_at(bytes: &[u8], at: usize) -> Result<(i64, usize), Fault>
     ensures { result ≡ fetch_of bytes.now at }
 {
-    if at < bytes.len() {
-        fetch(bytes, at, shape_of(wide(bytes[at])))
-    } else {
-        Fetched::Unknown
-    }
+    let byte = *bytes.get(at).ok_or(Fault::Unknown)?;
+    fetch(bytes, at, shape_of(byte as u64))
 }
 
 // The command at a position within the bytes, by its code's shape.
-fn fetch(bytes: &[u8], at: usize, shape: Shape) -> Fetched
+fn fetch(bytes: &[u8], at: usize, shape: Option<Shape>) -> Result<(i64, usize), Fault>
     requires { (at < length bytes.now) × (shape ≡ shape_of (opcode_of (get_or bytes.now at 0))) }
     ensures { result ≡ fetch_of bytes.now at }
 {
+    let shape = shape.ok_or(Fault::Unknown)?;
     let next = at + 1;
-    match shape {
-        Shape::Unknown => Fetched::Unknown,
-        Shape::Of(operand, _, _, _) => match operand {
-            Operand::Page => page_at(bytes, next),
-            Operand::Counts => counts_at(bytes, next),
-            Operand::Signed(width) => {
-                if width == 8 {
-                    return with_field(long_at(bytes, next), next + 8);
-                }
-                if width == 2 {
-                    return with_field(word::field::i16_at(bytes, next), next + 2);
-                }
-                Fetched::Is(0, next)
-            }
-        },
+    match shape.operand {
+        Operand::Page => page_at(bytes, next),
+        Operand::Counts => counts_at(bytes, next),
+        Operand::Signed(8) => with_field(long_at(bytes, next), next + 8),
+        Operand::Signed(2) => with_field(word::field::signed_at::<i16>(bytes, next), next + 2),
+        Operand::Signed(_) => Ok((0, next)),
     }
 }
 
@@ -419,121 +346,78 @@ fn field_of(kind: Operand, operand: i64) -> i64
     ensures { result ≡ field_of kind operand }
 {
     match kind {
-        Operand::Signed(_) => operand,
-        Operand::Page => operand,
+        Operand::Signed(_) | Operand::Page => operand,
         Operand::Counts => { (arguments_of(operand) % 256 + 256 * results_of(operand)) as i64 }
     }
 }
 
 // Writes a command as bytes, if there is room: its code and its operand, which is cut to its lowest bits where its bytes do not hold
 // it. An unknown code is no command and has no bytes.
-pub fn put(code: u64, operand: i64, out: &mut [u8], at: usize) -> Put
+pub fn put(code: u64, operand: i64, out: &mut [u8], at: usize) -> Option<usize>
     ensures answer { result ≡ put_answer at (encode_code (opcode_of code) operand) out.old }
     ensures written { out.new ≡ put_out at (encode_code (opcode_of code) operand) out.old }
 {
-    let shape = shape_of(code);
-    match shape {
-        Shape::Unknown => {
-            if out.len() < at {
-                return Put::NoRoom;
-            }
-            Put::Next(at)
-        }
-        Shape::Of(kind, _, _, _) => {
-            let width = width_of(kind);
-            let field = field_of(kind, operand);
-            if out.len() <= at {
-                return Put::NoRoom;
-            }
-            if out.len() - at <= width {
-                return Put::NoRoom;
-            }
-            out[at] = code as u8;
-            if width == 8 {
-                return word::field::put_i64(field, out, at + 1);
-            }
-            if width == 2 {
-                return word::field::put_i16(field, out, at + 1);
-            }
-            if width == 1 {
-                return word::field::put_byte(field, out, at + 1);
-            }
-            Put::Next(at + 1)
-        }
+    let Some(shape) = shape_of(code) else {
+        return if out.len() < at { None } else { Some(at) };
+    };
+    let kind = shape.operand;
+    let width = width_of(kind);
+    let field = field_of(kind, operand);
+    if out.len() <= at || out.len() - at <= width {
+        return None;
+    }
+    out[at] = code as u8;
+    match width {
+        8 => word::field::put::<i64>(field, out, at + 1),
+        2 => word::field::put::<i16>(field, out, at + 1),
+        1 => word::field::put::<u8>(field, out, at + 1),
+        _ => Some(at + 1),
     }
 }
 
-fn wide(byte: u8) -> u64
-    ensures { result ≡ byte }
-{
-    byte as u64
-}
-
 // Checks 1 to 3, 12 and 14 over any bytes: each command from the left.
-pub fn check(bytes: &[u8]) -> Checked
+pub fn check(bytes: &[u8]) -> Result<usize, Refusal>
     ensures { result ≡ check_answer (decode bytes.now) }
 {
     let mut at: usize = 0;
     let mut count: usize = 0;
+    // commands differ in length
     while at < bytes.len() {
         if count == 4096 {
-            return Checked::Refused(Refusal {
-                code: 1,
-                position: at,
-            });
+            return Err(Refusal::new(1, at));
         }
-        let shape = shape_of(wide(bytes[at]));
-        let fetched = fetch(bytes, at, shape);
-        match fetched {
-            Fetched::Is(operand, next) => {
-                if permits(shape, operand) {
-                    at = next;
-                    count += 1;
-                } else {
-                    return Checked::Refused(Refusal {
-                        code: check_of(shape),
-                        position: at,
-                    });
-                }
-            }
-            Fetched::Unknown => {
-                return Checked::Refused(Refusal {
-                    code: 2,
-                    position: at,
-                });
-            }
-            Fetched::Cut => {
-                return Checked::Refused(Refusal {
-                    code: 3,
-                    position: at,
-                });
-            }
+        let shape = shape_of(bytes[at] as u64);
+        let (operand, next) = fetch(bytes, at, shape).map_err(|fault| Refusal::new(
+            check_for(fault),
+            at,
+        ))?;
+        if !permits(shape, operand) {
+            return Err(Refusal::new(check_of(shape), at));
         }
+        at = next;
+        count += 1;
     }
-    Checked::Accepted(count)
+    Ok(count)
 }
 
 // Writes a program into a space without a check: its commands from the left, as far as they can be read and as there is room.
 pub fn write(bytes: &[u8], space: &mut [i64])
     ensures { space.new ≡ write_space bytes.now space.old }
 {
+    // no `for`: both go on by what is read
     let mut at: usize = 0;
     let mut i: usize = 0;
     while at < bytes.len() {
         if space.len() - i < 2 {
             return;
         }
-        let code = wide(bytes[at]);
-        let fetched = fetch(bytes, at, shape_of(code));
-        match fetched {
-            Fetched::Is(operand, next) => {
-                space[i] = code as i64;
-                space[i + 1] = operand;
-                i += 2;
-                at = next;
-            }
-            Fetched::Unknown => return,
-            Fetched::Cut => return,
-        }
+        let code = bytes[at];
+        let Ok((operand, next)) = fetch(bytes, at, shape_of(code as u64)) else {
+            return;
+        };
+        space[i] = code as i64;
+        space[i + 1] = operand;
+        i += 2;
+        at = next;
     }
 }

@@ -3,7 +3,6 @@
 #![tactic(auto)]
 
 mod memory;
-mod print;
 mod readings;
 mod stops;
 mod trial;

@@ -7,21 +7,21 @@ use std::io;
 pub(crate) fn places(rt: &impl Print) -> io::Result<()> {
     on_two(
         rt,
-        b"stop 0, Push on the last step: ",
+        "stop 0, Push on the last step",
         b"\x05\x01\0\0\0\0\0\0\0",
         5,
         1,
     )?;
     on_two(
         rt,
-        b"stop 1, Push 0 and Jump round and round: ",
+        "stop 1, Push 0 and Jump round and round",
         b"\x05\0\0\0\0\0\0\0\0\x08",
         5,
         5,
     )?;
     on_two(
         rt,
-        b"stop 2, Jump to 9: ",
+        "stop 2, Jump to 9",
         b"\x05\x09\0\0\0\0\0\0\0\x08",
         5,
         1000,
@@ -32,21 +32,21 @@ pub(crate) fn places(rt: &impl Print) -> io::Result<()> {
 pub(crate) fn entries(rt: &impl Print) -> io::Result<()> {
     on_two(
         rt,
-        b"stop 3, Add over a frame: ",
+        "stop 3, Add over a frame",
         b"\x05\x01\0\0\0\0\0\0\0\x05\x03\0\0\0\0\0\0\0\x0a\x01",
         5,
         1000,
     )?;
     on_two(
         rt,
-        b"stop 4, Ret on a value: ",
+        "stop 4, Ret on a value",
         b"\x05\x01\0\0\0\0\0\0\0\x0b",
         5,
         1000,
     )?;
     on_two(
         rt,
-        b"stop 5, Load from -1: ",
+        "stop 5, Load from -1",
         b"\x05\xff\xff\xff\xff\xff\xff\xff\xff\x06",
         5,
         1000,
@@ -58,58 +58,58 @@ pub(crate) fn entries(rt: &impl Print) -> io::Result<()> {
 pub(crate) fn full(rt: &impl Print) -> io::Result<()> {
     on_two(
         rt,
-        b"stop 6, Store at a labelled address: ",
+        "stop 6, Store at a labelled address",
         b"\x05\x09\0\0\0\0\0\0\0\x05\x01\0\0\0\0\0\0\0\x06\x07",
         0,
         1000,
     )?;
-    on_two(rt, b"256 Push: ", &[5u8; 2304], 5, 1000)?;
-    on_two(rt, b"stop 7, 257 Push: ", &[5u8; 2313], 5, 1000)?;
+    on_two(rt, "256 Push", &[5u8; 2304], 5, 1000)?;
+    on_two(rt, "stop 7, 257 Push", &[5u8; 2313], 5, 1000)?;
     on_two(
         rt,
-        b"stop 8, a fourth line: ",
+        "stop 8, a fourth line",
         b"\x05\0\0\0\0\0\0\0\0\x04\x05\0\0\0\0\0\0\0\0\x04\x05\0\0\0\0\0\0\0\0\x04\x05\0\0\0\0\0\0\0\0\x04",
         5,
         1000,
     )?;
     let three = b"\x05\x01\0\0\0\0\0\0\0\x04\x05\x02\0\0\0\0\0\0\0\x04\x05\x03\0\0\0\0\0\0\0\x04";
-    on_two(rt, b"stop 8, no space for the end line: ", three, 5, 1000)?;
-    on_two(rt, b"stop 8, and the allowance is spent: ", three, 5, 6)
+    on_two(rt, "stop 8, no space for the end line", three, 5, 1000)?;
+    on_two(rt, "stop 8, and the allowance is spent", three, 5, 6)
 }
 
 // Stop 9: sums and differences at both ends of 64 bits; R6 is one more.
 pub(crate) fn sums(rt: &impl Print) -> io::Result<()> {
     on_two(
         rt,
-        b"2^63 - 1 plus 0: ",
+        "2^63 - 1 plus 0",
         b"\x05\0\0\0\0\0\0\0\0\x05\xff\xff\xff\xff\xff\xff\xff\x7f\x01\x04",
         5,
         1000,
     )?;
     on_two(
         rt,
-        b"-2^63 less 0: ",
+        "-2^63 less 0",
         b"\x05\0\0\0\0\0\0\0\0\x05\0\0\0\0\0\0\0\x80\x02\x04",
         5,
         1000,
     )?;
     on_two(
         rt,
-        b"stop 9, -2^63 less 1: ",
+        "stop 9, -2^63 less 1",
         b"\x05\x01\0\0\0\0\0\0\0\x05\0\0\0\0\0\0\0\x80\x02\x04",
         5,
         1000,
     )?;
     on_two(
         rt,
-        b"stop 9, 0 less -2^63: ",
+        "stop 9, 0 less -2^63",
         b"\x05\0\0\0\0\0\0\0\x80\x05\0\0\0\0\0\0\0\0\x02\x04",
         5,
         1000,
     )?;
     on_two(
         rt,
-        b"stop 9, -2^63 plus -1: ",
+        "stop 9, -2^63 plus -1",
         b"\x05\xff\xff\xff\xff\xff\xff\xff\xff\x05\0\0\0\0\0\0\0\x80\x01\x04",
         5,
         1000,
@@ -118,24 +118,24 @@ pub(crate) fn sums(rt: &impl Print) -> io::Result<()> {
 
 // Every page is cleared for all owners but this one, whose clearance word is another.
 fn all_but(page: usize, word: i64) -> Clearances {
-    let mut words = [4294967295i64; 16];
-    if page < 16 {
-        words[page] = word;
+    let mut clearances = Clearances::all();
+    if let Some(w) = clearances.words.get_mut(page) {
+        *w = word;
     }
-    Clearances { words, count: 16 }
+    clearances
 }
 
 // Stop 10: cell 1 is owner 0's, and page 1 is closed to him, or cleared for him alone; then an end line, at a place of his, on page 0.
 // Clearances that are refused.
 pub(crate) fn closed(rt: &impl Print) -> io::Result<()> {
     let pages = b"\x05\0\0\0\0\0\0\0\0\x06\x04\x05\x01\0\0\0\0\0\0\0\x06\x0c\x01";
-    on_pages(rt, b"stop 10, OutputTo 1: ", pages, all_but(1, 2), 5, 1000)?;
-    on_pages(rt, b"OutputTo 1, cleared: ", pages, all_but(1, 1), 5, 1000)?;
+    on_pages(rt, "stop 10, OutputTo 1", pages, all_but(1, 2), 5, 1000)?;
+    on_pages(rt, "OutputTo 1, cleared", pages, all_but(1, 1), 5, 1000)?;
     let end = b"\x05\x01\0\0\0\0\0\0\0\x06\x09\x01\0";
-    on_pages(rt, b"stop 10, the end line: ", end, all_but(0, 2), 5, 1000)?;
+    on_pages(rt, "stop 10, the end line", end, all_but(0, 2), 5, 1000)?;
     on_pages(
         rt,
-        b"stop 10, and the allowance is spent: ",
+        "stop 10, and the allowance is spent",
         end,
         all_but(0, 2),
         5,
@@ -143,7 +143,7 @@ pub(crate) fn closed(rt: &impl Print) -> io::Result<()> {
     )?;
     on_pages(
         rt,
-        b"a clearance of 2^32: ",
+        "a clearance of 2^32",
         b"",
         all_but(15, 4294967296),
         5,
@@ -152,7 +152,7 @@ pub(crate) fn closed(rt: &impl Print) -> io::Result<()> {
     let words = [0i64; 16];
     on_pages(
         rt,
-        b"17 clearances: ",
+        "17 clearances",
         b"",
         Clearances { words, count: 17 },
         5,
@@ -164,28 +164,28 @@ pub(crate) fn closed(rt: &impl Print) -> io::Result<()> {
 pub(crate) fn returns(rt: &impl Print) -> io::Result<()> {
     on_two(
         rt,
-        b"stop 11, Ret to a frame that owes a result: ",
+        "stop 11, Ret to a frame that owes a result",
         b"\x05\x02\0\0\0\0\0\0\0\x0d\0\x01\x0b",
         5,
         1000,
     )?;
     on_two(
         rt,
-        b"stop 11, RetV to a frame that owes none: ",
+        "stop 11, RetV to a frame that owes none",
         b"\x05\x02\0\0\0\0\0\0\0\x0d\0\0\x05\x01\0\0\0\0\0\0\0\x0e",
         5,
         1000,
     )?;
     on_two(
         rt,
-        b"stop 3, CallN 1 0 over a frame: ",
+        "stop 3, CallN 1 0 over a frame",
         b"\x05\x02\0\0\0\0\0\0\0\x0d\0\0\x05\x02\0\0\0\0\0\0\0\x0d\x01\0",
         5,
         1000,
     )?;
     on_two(
         rt,
-        b"stop 4, RetV with no frame under its value: ",
+        "stop 4, RetV with no frame under its value",
         b"\x05\x01\0\0\0\0\0\0\0\x0e",
         5,
         1000,

@@ -34,13 +34,13 @@ lines_from o written i h =
 -- A line that the reader may see
 -- ════════════════════════════════════════════════════════════════════════════════════════════
 
-pub written-shown : (reader : ℕ) (x : Line) (old : List ℕ) (at next : ℕ) (new : List ℕ) → flows x.label reader ≡ true
+pub written_shown : (reader : ℕ) (x : Line) (old : List ℕ) (at next : ℕ) (new : List ℕ) → flows x.label reader ≡ true
     → Written (line_text x) old at next new → Written (shown_text reader x) old at next new
-written-shown reader x old at next new f w = rw f w
+written_shown reader x old at next new f w = rw f w
 
-pub written-hidden : (reader : ℕ) (x : Line) (old : List ℕ) (at : ℕ) → flows x.label reader ≡ false
+pub written_hidden : (reader : ℕ) (x : Line) (old : List ℕ) (at : ℕ) → flows x.label reader ≡ false
     → Written (shown_text reader x) old at at old
-written-hidden reader x old at f = rw f (record { end = sym (add-zero at); space = sym (laid_at-nil at old) })
+written_hidden reader x old at f = rw f (record { end = sym (add-zero at); space = sym (laid_at-nil at old) })
 
 -- ════════════════════════════════════════════════════════════════════════════════════════════
 -- The loop

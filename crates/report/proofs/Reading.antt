@@ -1,5 +1,6 @@
 -- Reading a job command by command: what is left to read, from where it stands, gives the whole job's reading.
 -- Assumes nothing.
+use Rattle.std.proofs.Common.{None, Ok, Option, Result, Some}
 use mathlib.Core.Path.{◌≡◌, refl, sym, ap, ◌∙◌}
 use mathlib.Core.List.{List, [], ◌∷◌, ◌++◌}
 use Prim.Native.Nat.{ℕ, zero, suc, ◌+◌, ◌-◌, ◌<◌, ◌≤◌}
@@ -9,10 +10,10 @@ use lib.ListN.{length, take, set, length-append}
 use borrow.Author.Tests.{lt-ltb, le-ltb, le-leb, lt-leb}
 use Rattle.label.specs.declared.Label.{Label}
 use Rattle.report.specs.declared.job.Item.{Item}
-use Rattle.report.specs.declared.job.Item.TheVariants.{Cell, Allowance, Reader, Sheet, Bad}
-use Rattle.report.specs.declared.job.Job.{Job}
+use Rattle.report.specs.declared.job.Item.TheVariants.{Cell, Allowance, Reader, Sheet}
 use Rattle.report.specs.Job.{Heard, silence, Ending, bad, sheet, Reading, reading}
 use Rattle.report.specs.Job.{item_at, follow, read_from, read_job, answer_of, job_answer, fitted}
+use Rattle.report.specs.declared.job.Said.{Said}
 
 -- ════════════════════════════════════════════════════════════════════════════════════════════
 -- The cells in a lent run
@@ -48,7 +49,7 @@ fitted-take (n ∷ new) (y ∷ old) h = ap (λ (l : List ℤ). n ∷ l) (fitted-
 -- ════════════════════════════════════════════════════════════════════════════════════════════
 
 -- what the reader answers and leaves in the two runs
-abbrev pub Answered : List ℕ → (values₀ labels₀ : List ℤ) → Job → (values labels : List ℤ) → Type 0
+abbrev pub Answered : List ℕ → (values₀ labels₀ : List ℤ) → Result Said ℕ → (values labels : List ℤ) → Type 0
 Answered s values₀ labels₀ r values labels =
     record {
       answer : r ≡ job_answer (read_job s);
@@ -132,22 +133,22 @@ module _ (s : List ℕ) (values₀ labels₀ values labels : List ℤ) (at cells
         sym e ∙ ap (λ n. read_from n s at heard) more ∙ g.left
 
     -- by the command there
-    turn : (i : Item) → item_at s at ≡ i → follow i at heard (λ at' h'. read_from (g.commands - 1) s at' h') ≡ read_job s
+    turn : (i : Option Item) → item_at s at ≡ i → follow i at heard (λ at' h'. read_from (g.commands - 1) s at' h') ≡ read_job s
     turn i e = ap (λ i. follow i at heard (λ at' h'. read_from (g.commands - 1) s at' h')) (sym e) ∙ next
 
-    pub going-bad : item_at s at ≡ Bad → Answered s values₀ labels₀ (answer_of heard (bad at)) values labels
-    going-bad e = ends (bad at) (turn Bad e)
+    pub going-bad : item_at s at ≡ None → Answered s values₀ labels₀ (answer_of heard (bad at)) values labels
+    going-bad e = ends (bad at) (turn None e)
 
-    pub going-sheet : item_at s at ≡ Sheet
+    pub going-sheet : item_at s at ≡ Some Sheet
         → Answered s values₀ labels₀
-        (Job.Read (record { cells = cells; allowance = allowance; reader = record { 0 = reader }; sheet = at + 1 })) values labels
-    going-sheet e = rw g.count at (ends (sheet (at + 1)) (turn Sheet e))
+        (Ok (record { cells = cells; allowance = allowance; reader = record { 0 = reader }; sheet = at + 1 })) values labels
+    going-sheet e = rw g.count at (ends (sheet (at + 1)) (turn (Some Sheet) e))
 
-    pub going-limit : (z : ℤ) (l : Label) → item_at s at ≡ Cell z l → cells ≡ 1024
+    pub going-limit : (z : ℤ) (l : Label) → item_at s at ≡ Some (Cell z l) → cells ≡ 1024
         → Answered s values₀ labels₀ (answer_of heard (bad at)) values labels
-    going-limit z l e f = ends (bad at) (rw (g.count, f) at (turn (Cell z l) e))
+    going-limit z l e f = ends (bad at) (rw (g.count, f) at (turn (Some (Cell z l)) e))
 
-    pub going-cell : (z : ℤ) (l : Label) → item_at s at ≡ Cell z l → (cells ≡ 1024 → ⊥)
+    pub going-cell : (z : ℤ) (l : Label) → item_at s at ≡ Some (Cell z l) → (cells ≡ 1024 → ⊥)
         → Going s values₀ labels₀ (set values cells z) (set labels cells (pos l.0)) (at + 13) (cells + 1) allowance reader
     going-cell z l e f =
         let k = g.few in
@@ -165,11 +166,11 @@ module _ (s : List ℕ) (values₀ labels₀ values labels : List ℤ) (at cells
           pairs = simp length-append (omega arith);
           stored = rw (← g.count, g.stored) (fitted-snoc g.values-heard z values₀);
           marked = rw (← g.pairs, g.marked) (fitted-snoc g.labels-heard (pos l.0) labels₀);
-          left = rw (lt-ltb (length g.values-heard) 1024 room) at (turn (Cell z l) e);
+          left = rw (lt-ltb (length g.values-heard) 1024 room) at (turn (Some (Cell z l)) e);
         }
 
     -- the last 41 and the last 42 hold
-    pub going-allowance : (n : ℕ) → item_at s at ≡ Allowance n → Going s values₀ labels₀ values labels (at + 5) cells n reader
+    pub going-allowance : (n : ℕ) → item_at s at ≡ Some (Allowance n) → Going s values₀ labels₀ values labels (at + 5) cells n reader
     going-allowance n e =
         record {
           values-heard = g.values-heard;
@@ -182,10 +183,10 @@ module _ (s : List ℕ) (values₀ labels₀ values labels : List ℤ) (at cells
           pairs = g.pairs;
           stored = g.stored;
           marked = g.marked;
-          left = turn (Allowance n) e;
+          left = turn (Some (Allowance n)) e;
         }
 
-    pub going-reader : (l : Label) → item_at s at ≡ Reader l → Going s values₀ labels₀ values labels (at + 5) cells allowance l.0
+    pub going-reader : (l : Label) → item_at s at ≡ Some (Reader l) → Going s values₀ labels₀ values labels (at + 5) cells allowance l.0
     going-reader l e =
         record {
           values-heard = g.values-heard;
@@ -198,5 +199,5 @@ module _ (s : List ℕ) (values₀ labels₀ values labels : List ℤ) (at cells
           pairs = g.pairs;
           stored = g.stored;
           marked = g.marked;
-          left = turn (Reader l) e;
+          left = turn (Some (Reader l)) e;
         }

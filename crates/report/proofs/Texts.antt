@@ -1,20 +1,19 @@
 -- Texts written one after the other, and how long the parts of a page are.
 -- Assumes nothing.
+use Rattle.std.proofs.Common.{Option, SFits, unwrap_or, w64}
 use mathlib.Core.Path.{◌≡◌, refl, sym, ap, ◌∙◌}
 use mathlib.Core.Bool.{true}
-use mathlib.Core.List.{List, ◌++◌}
-use Prim.Native.Nat.{ℕ, suc, ◌+◌, ◌^◌, ◌<◌, ◌≤◌}
-use native.Mathlib.Numerals.{add-one}
-use native.Mathlib.Nat.{add-zero}
+use mathlib.Core.List.{List, ◌++◌, append_assoc}
+use Prim.Native.Nat.{ℕ, suc, ◌+◌, ◌-◌, ◌^◌, ◌<◌, ◌≤◌}
 use native.Mathlib.Omega.{arith}
 use lib.IntN.{ℤ, pos, negsuc}
 use lib.Signed.{mag}
-use lib.ListN.{length, drop, get_or, set, length-set, length-append, drop_of_length-le}
-use lib.Seq.{drop-cons}
+use lib.ListN.{length, take, drop, length-append}
+use lib.Seq.{drop-drop}
+use borrow.Rule.Slice.PartMut.{put_mid}
 use Rattle.word.specs.Lay.{laid_at}
 use Rattle.word.specs.Text.{digit_count, natural, decimal, hexadecimal, put_answer, put_out}
-use Rattle.word.specs.declared.text.Put.{Put}
-use Rattle.word.proofs.Lay.{laid_at-nil, laid_at-cons, laid_at-append, length-laid_at}
+use Rattle.word.proofs.Lay.{laid_at-append, length-laid_at}
 use Rattle.word.proofs.Laws.Numeral.{numeral-length, digit_count-le, digit_count-within}
 use Rattle.word.proofs.Laws.Text.{put-room}
 use Rattle.program.specs.Command.{is_page}
@@ -23,18 +22,53 @@ use Rattle.machine.specs.declared.Kind.{Kind}
 use Rattle.machine.specs.declared.Kind.TheVariants.{Number, End}
 use Rattle.machine.specs.Atom.{Line}
 use Rattle.report.specs.Lines.{space, newline, job_word, refused_word, job_text, refused_text, page_text, head_text, line_text}
-use Rattle.report.specs.Written.{Written, next_of}
+use Rattle.report.specs.Written.{Written}
 
 -- ════════════════════════════════════════════════════════════════════════════════════════════
 -- Writing
 -- ════════════════════════════════════════════════════════════════════════════════════════════
 
+pub natural-short : (n : ℕ) → length (natural n) ≤ 20
+unfolding natural
+natural-short n = omega (arith, numeral-length 10 (digit_count 10 19 n) n, digit_count-le 10 19 n)
+
+-- a word has at most 19 digits, and a sign before them
+pub decimal-short : (z : ℤ) → mag z < 2 ^ 63 → length (decimal z) ≤ 20
+unfolding decimal natural
+decimal-short (pos n) h = natural-short n
+decimal-short (negsuc n) h =
+    omega (arith, numeral-length 10 (digit_count 10 19 (suc n)) (suc n), digit_count-within 10 19 18 (suc n) (omega arith))
+
+pub hexadecimal-length : (n : ℕ) → length (hexadecimal n) ≡ 8
+unfolding hexadecimal
+hexadecimal-length n = numeral-length 16 8 n
+
 -- a text for which there is room
-pub written-put : (text old : List ℕ) (at : ℕ) (put : Put) (next : ℕ) (new : List ℕ) → at + length text ≤ length old
-    → put ≡ put_answer at text old → new ≡ put_out at text old → next ≡ next_of put at → Written text old at next new
+written-put : (text old : List ℕ) (at : ℕ) (put : Option ℕ) (next : ℕ) (new : List ℕ) → at + length text ≤ length old
+    → put ≡ put_answer at text old → new ≡ put_out at text old → next ≡ unwrap_or put at → Written text old at next new
 written-put text old at put next new h p q r =
     let room = put-room at (length text) text old refl h in
-    record { end = r ∙ ap (λ x. next_of x at) (p ∙ room.0); space = q ∙ room.1 }
+    record { end = r ∙ ap (λ x. unwrap_or x at) (p ∙ room.0); space = q ∙ room.1 }
+
+-- bytes in the place of as many
+pub written_part : (at : ℕ) (text old : List ℕ) → at + length text ≤ length old
+    → Written text old at (at + length text) (put_mid at (at + length text - at) old text)
+unfolding laid_at
+written_part at text old h =
+    let size : at + length text - at ≡ length text = omega arith in
+    record { end = refl; space = rw (size, drop-drop (length text) at old) (sym (append_assoc (take at old) text (drop (at + length text) old))) }
+
+pub written_natural : (n : ℕ) (old : List ℕ) (at : ℕ) (put : Option ℕ) (next : ℕ) (new : List ℕ) → at + 20 ≤ length old
+    → put ≡ put_answer at (natural n) old → new ≡ put_out at (natural n) old → next ≡ unwrap_or put at → Written (natural n) old at next new
+written_natural n old at put next new h = written-put (natural n) old at put next new (omega (arith, natural-short n, h))
+
+pub written_decimal : (z : ℤ) (old : List ℕ) (at : ℕ) (put : Option ℕ) (next : ℕ) (new : List ℕ) → SFits w64 z → at + 20 ≤ length old
+    → put ≡ put_answer at (decimal z) old → new ≡ put_out at (decimal z) old → next ≡ unwrap_or put at → Written (decimal z) old at next new
+written_decimal z old at put next new f h = written-put (decimal z) old at put next new (omega (arith, decimal-short z f.sfits, h))
+
+pub written_hexadecimal : (n : ℕ) (old : List ℕ) (at : ℕ) (put : Option ℕ) (next : ℕ) (new : List ℕ) → at + 8 ≤ length old
+    → put ≡ put_answer at (hexadecimal n) old → new ≡ put_out at (hexadecimal n) old → next ≡ unwrap_or put at → Written (hexadecimal n) old at next new
+written_hexadecimal n old at put next new h = written-put (hexadecimal n) old at put next new (omega (arith, hexadecimal-length n, h))
 
 -- a text and then another
 pub written-append : (xs ys old mid new : List ℕ) (at p q : ℕ) → at + length xs ≤ length old
@@ -57,59 +91,9 @@ written-room {text} {old} {new} {at} {next} m k l h w =
     let n = w.end in
     omega (arith, ap length w.space, length-laid_at at text old (omega arith))
 
--- copying a text byte by byte: what is left to copy, laid from where it stands, gives the whole
-pub record Copying (text out₀ : List ℕ) (at : ℕ) (out : List ℕ) (i : ℕ) : Type 0 where
-  pub few : i ≤ length text
-  pub same : length out ≡ length out₀
-  pub left : laid_at (at + i) (drop i text) out ≡ laid_at at text out₀
-
-module _ (text out₀ : List ℕ) (at : ℕ) where
-  pub copying-start : Copying text out₀ at out₀ 0
-  copying-start = record { few = omega arith; same = refl; left = rw (add-zero at) }
-
-  module _ (out : List ℕ) (i : ℕ) (c : Copying text out₀ at out i) where
-    pub copying-next : i < length text → at + length text ≤ length out₀ → Copying text out₀ at (set out (at + i) (get_or text i 0)) (i + 1)
-    copying-next h room =
-        let s = c.same in
-        let n : suc (at + i) ≡ at + (i + 1) = omega arith in
-        record {
-          few = omega arith;
-          same = length-set out (at + i) (get_or text i 0) ∙ s;
-          left =
-              sym (
-              ap (λ (l : List ℕ). laid_at (at + i) l out) (drop-cons text i 0 h)
-              ∙ laid_at-cons (at + i) (get_or text i 0) (drop (suc i) text) out (omega arith)
-              ∙ rw (n, ← add-one i)
-              )
-              ∙ c.left;
-        }
-
-    pub copying-end : length text ≤ i → Written text out₀ at (at + i) out
-    copying-end h =
-        let f = c.few in
-        record {
-          end = omega arith;
-          space = sym (ap (λ (l : List ℕ). laid_at (at + i) l out) (drop_of_length-le text h) ∙ laid_at-nil (at + i) out) ∙ c.left;
-        }
-
 -- ════════════════════════════════════════════════════════════════════════════════════════════
 -- Lengths
 -- ════════════════════════════════════════════════════════════════════════════════════════════
-
-pub natural-short : (n : ℕ) → length (natural n) ≤ 20
-unfolding natural
-natural-short n = omega (arith, numeral-length 10 (digit_count 10 19 n) n, digit_count-le 10 19 n)
-
--- a word has at most 19 digits, and a sign before them
-pub decimal-short : (z : ℤ) → mag z < 2 ^ 63 → length (decimal z) ≤ 20
-unfolding decimal natural
-decimal-short (pos n) h = natural-short n
-decimal-short (negsuc n) h =
-    omega (arith, numeral-length 10 (digit_count 10 19 (suc n)) (suc n), digit_count-within 10 19 18 (suc n) (omega arith))
-
-pub hexadecimal-length : (n : ℕ) → length (hexadecimal n) ≡ 8
-unfolding hexadecimal
-hexadecimal-length n = numeral-length 16 8 n
 
 -- a number, or `end`
 pub head-short : (k : Kind) (z : ℤ) → mag z < 2 ^ 63 → length (head_text k z) ≤ 20

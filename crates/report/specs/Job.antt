@@ -1,50 +1,48 @@
 -- Reading a job, as document 01's page program does: each command from the left.
-use Rattle.std.specs.Prelude.{ℕ, zero, suc, ◌+◌, List, [], ◌∷◌, ◌++◌, ℤ, pos, nat_abs, length, drop, get_or, ltb, leb, eqb}
-use Rattle.word.specs.declared.field.Field.{Field}
+use Rattle.std.specs.Prelude.{ℕ, zero, suc, ◌+◌, List, [], ◌∷◌, ◌++◌, ℤ, pos, nat_abs, length, drop, get_or, ltb, leb, eqb, Err, None, Ok, Option, Result, Some}
 use Rattle.word.specs.Field.{unsigned_at, signed_at}
 use Rattle.word.specs.Choose.{choose}
-use Rattle.report.specs.declared.job.Unsigned.{Unsigned}
 use Rattle.report.specs.declared.job.Item.{Item}
-use Rattle.report.specs.declared.job.Item.TheVariants.{Cell, Allowance, Reader, Sheet, Bad}
-use Rattle.report.specs.declared.job.Job.{Job}
+use Rattle.report.specs.declared.job.Item.TheVariants.{Cell, Allowance, Reader, Sheet}
+use Rattle.report.specs.declared.job.Said.{Said}
 
 -- ════════════════════════════════════════════════════════════════════════════════════════════
 -- One command of a job
 -- ════════════════════════════════════════════════════════════════════════════════════════════
 
 -- the 4-byte fields unsigned
-abbrev pub unsigned : Field → Unsigned
-unsigned (Field.Number z) = Unsigned.Is (nat_abs z)
-unsigned Field.Cut = Unsigned.Cut
+abbrev pub unsigned : Option ℤ → Option ℕ
+unsigned (Some z) = Some (nat_abs z)
+unsigned None = None
 
-unfoldable pub four_at : List ℕ → ℕ → Unsigned
+unfoldable pub four_at : List ℕ → ℕ → Option ℕ
 four_at s at = unsigned (unsigned_at 4 s at)
 
 -- 40 cell: 8-byte number, 4-byte label
-abbrev pub labelled : ℤ → Unsigned → Item
-labelled z (Unsigned.Is l) = Cell z (record { 0 = l })
-labelled z Unsigned.Cut = Bad
+abbrev pub labelled : ℤ → Option ℕ → Option Item
+labelled z (Some l) = Some (Cell z (record { 0 = l }))
+labelled z None = None
 
-abbrev pub cell : Field → Unsigned → Item
-cell (Field.Number z) l = labelled z l
-cell Field.Cut l = Bad
+abbrev pub cell : Option ℤ → Option ℕ → Option Item
+cell (Some z) l = labelled z l
+cell None l = None
 
 -- 41 allowance (4)
-abbrev pub allowance : Unsigned → Item
-allowance (Unsigned.Is n) = Allowance n
-allowance Unsigned.Cut = Bad
+abbrev pub allowance : Option ℕ → Option Item
+allowance (Some n) = Some (Allowance n)
+allowance None = None
 
 -- 42 reader's set (4)
-abbrev pub reader_set : Unsigned → Item
-reader_set (Unsigned.Is l) = Reader (record { 0 = l })
-reader_set Unsigned.Cut = Bad
+abbrev pub reader_set : Option ℕ → Option Item
+reader_set (Some l) = Some (Reader (record { 0 = l }))
+reader_set None = None
 
--- the command at an offset, its operands after its byte: 40, 41, 42, or 43 sheet; an unknown byte and a cut operand are bad
-unfoldable pub item_at : List ℕ → ℕ → Item
+-- the command at an offset, its operands after its byte: 40, 41, 42, or 43 sheet; an unknown byte and a cut operand are none
+unfoldable pub item_at : List ℕ → ℕ → Option Item
 item_at s at =
     choose (eqb (get_or s at 0) 0x40) (cell (signed_at 8 s (at + 1)) (four_at s (at + 9)))
     (choose (eqb (get_or s at 0) 0x41) (allowance (four_at s (at + 1)))
-    (choose (eqb (get_or s at 0) 0x42) (reader_set (four_at s (at + 1))) (choose (eqb (get_or s at 0) 0x43) Sheet Bad)))
+    (choose (eqb (get_or s at 0) 0x42) (reader_set (four_at s (at + 1))) (choose (eqb (get_or s at 0) 0x43) (Some Sheet) None)))
 
 -- ════════════════════════════════════════════════════════════════════════════════════════════
 -- The whole job
@@ -89,12 +87,12 @@ abbrev pub reading : Heard → Ending → Reading
 reading h e = record { heard = h; ending = e }
 
 -- the 1,025th cell is bad
-abbrev pub follow : Item → ℕ → Heard → (ℕ → Heard → Reading) → Reading
-follow (Cell z l) at h on = choose (ltb (length h.values) 1024) (on (at + 13) (with_cell h z l.0)) (reading h (bad at))
-follow (Allowance n) at h on = on (at + 5) (with_allowance h n)
-follow (Reader l) at h on = on (at + 5) (with_reader h l.0)
-follow Sheet at h on = reading h (sheet (at + 1))
-follow Bad at h on = reading h (bad at)
+abbrev pub follow : Option Item → ℕ → Heard → (ℕ → Heard → Reading) → Reading
+follow (Some (Cell z l)) at h on = choose (ltb (length h.values) 1024) (on (at + 13) (with_cell h z l.0)) (reading h (bad at))
+follow (Some (Allowance n)) at h on = on (at + 5) (with_allowance h n)
+follow (Some (Reader l)) at h on = on (at + 5) (with_reader h l.0)
+follow (Some Sheet) at h on = reading h (sheet (at + 1))
+follow None at h on = reading h (bad at)
 
 -- from an offset on, at most so many commands; with no 43 the offset is the job's length
 unfoldable pub read_from : ℕ → List ℕ → ℕ → Heard → Reading
@@ -118,12 +116,12 @@ sheet_of job = sheet_from job (read_job job).ending
 -- What the job reader answers, and what it leaves in the runs that it is lent for the cells
 -- ════════════════════════════════════════════════════════════════════════════════════════════
 
-abbrev pub answer_of : Heard → Ending → Job
-answer_of h (bad at) = Job.Bad at
+abbrev pub answer_of : Heard → Ending → Result Said ℕ
+answer_of h (bad at) = Err at
 answer_of h (sheet at) =
-    Job.Read (record { cells = length h.values; allowance = h.allowance; reader = record { 0 = h.reader }; sheet = at })
+    Ok (record { cells = length h.values; allowance = h.allowance; reader = record { 0 = h.reader }; sheet = at })
 
-abbrev pub job_answer : Reading → Job
+abbrev pub job_answer : Reading → Result Said ℕ
 job_answer r = answer_of r.heard r.ending
 
 -- `new` from the start on, as far as there is room, and the rest as it came

@@ -1,19 +1,18 @@
 -- The page of a job: the bytes that document 01's page program prints.
-use Rattle.std.specs.Prelude.{ℕ, ◌*◌, List, [], ℤ, pos, length, take, drop, replicate, ltb}
+use Rattle.std.specs.Prelude.{ℕ, ◌*◌, List, [], ℤ, pos, length, take, drop, replicate, ltb, Err, None, Ok, Option, Result, Some}
 use Rattle.word.specs.Choose.{choose}
 use Rattle.word.specs.Lay.{laid}
 use Rattle.step.specs.Lent.{Cells, cells, lent}
-use Rattle.engine.specs.declared.Answer.{Answer}
-use Rattle.engine.specs.declared.Answer.TheVariants.{Refused, Stopped}
 use Rattle.engine.specs.Memory.{all_cleared, Output, output, Memory, memory}
 use Rattle.engine.specs.Layout.{lines_of}
 use Rattle.engine.specs.Ended.{Ended}
 use Rattle.policy.specs.Standard.{standard_bytes}
 use Rattle.tagging.specs.Consult.{Tag}
 use Rattle.tagged.specs.Tagged.{Left, tagged}
-use Rattle.report.specs.declared.Outcome.{Outcome}
 use Rattle.report.specs.Job.{Heard, Ending, bad, sheet, read_job}
 use Rattle.report.specs.Lines.{job_text, refused_text, lines_text}
+use Rattle.program.specs.declared.Refusal.{Refusal}
+use Rattle.engine.specs.declared.Ran.{Ran}
 
 abbrev pub zeros : ℕ → List ℤ
 zeros n = replicate n (pos 0)
@@ -32,9 +31,9 @@ abbrev pub end_for : Cells → (allowance : ℕ) → List ℕ → Left
 end_for c allowance bytes = tagged bytes standard_bytes (zeros 7) all_cleared (lent_for c) handler_space allowance
 
 -- a refusal prints only itself; else the lines written that the reader may see
-abbrev pub answer_text : (reader : ℕ) → Answer → Output → List ℕ
-answer_text reader (Refused r) o = refused_text r.code r.position
-answer_text reader (Stopped ran) o = lines_text reader (lines_of ran.machine.lines o)
+abbrev pub answer_text : (reader : ℕ) → Result Ran Refusal → Output → List ℕ
+answer_text reader (Err r) o = refused_text r.code r.position
+answer_text reader (Ok ran) o = lines_text reader (lines_of ran.machine.lines o)
 
 abbrev pub ended_text : (reader : ℕ) → Ended Tag → List ℕ
 ended_text reader e = answer_text reader e.answer e.memory.output
@@ -54,13 +53,13 @@ abbrev pub page_limit : ℕ
 page_limit = 33792
 
 -- a space shorter than that is left as it came; else the page stands at its start
-abbrev pub page_answer : (job out : List ℕ) → Outcome
-page_answer job out = choose (ltb (length out) page_limit) Outcome.Short (Outcome.Written (length (page_of job)))
+abbrev pub page_answer : (job out : List ℕ) → Option ℕ
+page_answer job out = choose (ltb (length out) page_limit) None (Some (length (page_of job)))
 
 abbrev pub page_out : (job out : List ℕ) → List ℕ
 page_out job out = choose (ltb (length out) page_limit) out (laid (page_of job) out)
 
 -- of that space the page is printed, or nothing
-abbrev pub printed_of : Outcome → List ℕ → List ℕ
-printed_of (Outcome.Written n) out = take n out
-printed_of Outcome.Short out = []
+abbrev pub printed_of : Option ℕ → List ℕ → List ℕ
+printed_of (Some n) out = take n out
+printed_of None out = []

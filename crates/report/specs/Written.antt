@@ -1,14 +1,8 @@
 -- A text written into a lent space from a position on.
 use Rattle.std.specs.Prelude.{ℕ, ◌+◌, ◌≡◌, List, length}
 use Rattle.word.specs.Lay.{laid_at}
-use Rattle.word.specs.declared.text.Put.{Put}
-use Rattle.word.specs.declared.text.Put.TheVariants.{Next, NoRoom}
 
 -- the position after it, and the space with it
 pub record Written (text old : List ℕ) (at next : ℕ) (new : List ℕ) : Type 0 where
   pub end : next ≡ at + length text
   pub space : new ≡ laid_at at text old
-
-abbrev pub next_of : Put → ℕ → ℕ
-next_of (Next n) at = n
-next_of NoRoom at = at

@@ -10,20 +10,13 @@ ghost use Rattle.report.specs.Job.{sheet_of};
 ghost use Rattle.report.specs.Written.{Written};
 ghost use Rattle.report.specs.Page.{run_text, page_of, page_limit, page_answer, page_out, printed_of};
 
-use engine::{Answer, Clearances};
-use job::{Job, Said};
+use engine::{Clearances, Lines};
+use job::Said;
 use label::Label;
 use policy::row::Cache;
 
 // No page is longer.
 pub const PAGE_LIMIT: usize = 33792;
-
-// How many bytes a page has, or that the space lent for it is shorter than the longest page.
-#[derive(Drop)]
-pub enum Outcome {
-    Written(usize),
-    Short,
-}
 
 // Runs a sheet on its cells, in space of its own, with every page cleared for all owners, and prints what the reader may see.
 fn run(
@@ -62,13 +55,16 @@ fn run(
         &mut pages,
         allowance,
     );
-    let answer = ended.answer;
-    match answer {
-        Answer::Refused(r) => print::refused(r, out),
-        Answer::Stopped(ran) => {
-            let machine = ran.machine;
-            let lines = machine.lines;
-            print::lines(&numbers, &line_labels, &kinds, &pages, lines, reader, out)
+    match ended.answer {
+        Err(r) => print::refused(r, out),
+        Ok(ran) => {
+            let space = Lines {
+                numbers: &numbers,
+                labels: &line_labels,
+                kinds: &kinds,
+                pages: &pages,
+            };
+            print::lines(space, ran.machine.lines, reader, out)
         }
     }
 }
@@ -79,15 +75,12 @@ fn on_cells(job: &[u8], said: Said, values: &mut [i64], labels: &mut [i64], out:
     ensures { Written (run_text (cells (take said.cells values.old) (take said.cells labels.old))
         said.allowance said.reader.0 (sheet_of job.now)) out.old 0 result out.new }
 {
-    let count = said.cells;
-    let allowance = said.allowance;
-    let reader = said.reader;
     run(
         job::sheet(job),
-        &mut values[..count],
-        &mut labels[..count],
-        allowance,
-        reader,
+        &mut values[..said.cells],
+        &mut labels[..said.cells],
+        said.allowance,
+        said.reader,
         out,
     )
 }
@@ -98,30 +91,28 @@ fn write(job: &[u8], out: &mut [u8]) -> usize
 {
     let mut values = [0i64; 1024];
     let mut labels = [0i64; 1024];
-    let answer = job::read(job, &mut values, &mut labels);
-    match answer {
-        Job::Bad(offset) => print::bad_job(offset, out),
-        Job::Read(said) => on_cells(job, said, &mut values, &mut labels, out),
+    match job::read(job, &mut values, &mut labels) {
+        Err(offset) => print::bad_job(offset, out),
+        Ok(said) => on_cells(job, said, &mut values, &mut labels, out),
     }
 }
 
 // The page of a job, at the start of a space that holds the longest one.
-pub fn page(job: &[u8], out: &mut [u8]) -> Outcome
+#[tactic(auto, using(crate::proofs::Paging::page_short, crate::proofs::Paging::page_answered))]
+pub fn page(job: &[u8], out: &mut [u8]) -> Option<usize>
     ensures answer { result ≡ page_answer job.now out.old }
     ensures out { out.new ≡ page_out job.now out.old }
 {
     if out.len() < PAGE_LIMIT {
-        return Outcome::Short;
+        return None;
     }
-    Outcome::Written(write(job, out))
+    Some(write(job, out))
 }
 
 // The part of a space that is to be printed: as many bytes from its start as were written, or none.
-pub fn printed(made: Outcome, out: &[u8]) -> &[u8]
+#[tactic(auto, using(crate::proofs::Paging::printed_first))]
+pub fn printed(made: Option<usize>, out: &[u8]) -> &[u8]
     ensures { result.now ≡ printed_of made out.now }
 {
-    match made {
-        Outcome::Written(length) => word::part::first(out, length),
-        Outcome::Short => &out[..0],
-    }
+    word::part::first(out, made.unwrap_or(0))
 }

@@ -1,59 +1,47 @@
 // The text of a page, written from a position on into a space that has room for it. Read specs/Lines.antt first.
 ghost use Rattle.std.specs.Prelude.{◌≡◌, ◌+◌, ◌*◌, ◌≤◌, length, true};
 ghost use Rattle.word.specs.Text.{natural, decimal, hexadecimal};
-ghost use Rattle.engine.specs.Memory.{output};
+ghost use Rattle.engine.specs.Runs.{read_in};
 ghost use Rattle.engine.specs.Layout.{line_from, lines_of};
 ghost use Rattle.program.specs.Command.{is_page};
 ghost use Rattle.report.specs.Lines.{job_text, refused_text, page_text, head_text, line_text, shown_text, lines_text, PageWords};
-ghost use Rattle.report.specs.Written.{Written, next_of};
+ghost use Rattle.report.specs.Written.{Written};
 
-use engine::{Line, room, shorter};
+use engine::{Line, Lines};
 use label::Label;
 use machine::Kind;
 use program::Refusal;
-use word::text::Put;
 
+#[tactic(auto, using(crate::proofs::Texts::written_part))]
 fn bytes(text: &[u8], out: &mut [u8], at: usize) -> usize
     requires { at + length text.now ≤ length out.old }
     ensures { Written text.now out.old at result out.new }
 {
-    let mut i: usize = 0;
-    while i < text.len() {
-        out[at + i] = text[i];
-        i += 1;
-    }
-    at + i
+    let next = at + text.len();
+    out[at..next].copy_from_slice(text);
+    next
 }
 
-// The position after a text for which there was room.
-fn next(put: Put, at: usize) -> usize
-    ensures { result ≡ next_of put at }
-{
-    match put {
-        Put::Next(n) => n,
-        Put::NoRoom => at,
-    }
-}
-
+// A number of each sort, by its own function of `word`: a line each.
 fn number(n: u64, out: &mut [u8], at: usize) -> usize
     requires { at + 20 ≤ length out.old }
     ensures { Written (natural n) out.old at result out.new }
 {
-    next(word::text::put_natural(n, out, at), at)
+    word::text::put_natural(n, out, at).unwrap_or(at)
 }
 
 fn signed_number(n: i64, out: &mut [u8], at: usize) -> usize
     requires { at + 20 ≤ length out.old }
     ensures { Written (decimal n) out.old at result out.new }
 {
-    next(word::text::put_decimal(n, out, at), at)
+    word::text::put_decimal(n, out, at).unwrap_or(at)
 }
 
 fn digits(label: Label, out: &mut [u8], at: usize) -> usize
     requires { at + 8 ≤ length out.old }
     ensures { Written (hexadecimal label.0) out.old at result out.new }
 {
-    next(word::text::put_hex(label.0, out, at), at)
+    word::text::put_hex(label.0, out, at).unwrap_or(at)
 }
 
 // A bad job.
@@ -104,16 +92,15 @@ fn line(x: Line, out: &mut [u8], at: usize) -> usize
     ensures text { Written (line_text (line_from x)) out.old at result out.new }
     ensures short { result ≤ at + 33 }
 {
-    let kind = x.kind;
-    let label = x.label;
     let start = page(x.page, out, at);
-    let first = head(kind, x.number, out, start);
+    let first = head(x.kind, x.number, out, start);
     let gap = bytes(b" ", out, first);
-    let second = digits(label, out, gap);
+    let second = digits(x.label, out, gap);
     bytes(b"\n", out, second)
 }
 
 // A line that the reader may see, or nothing.
+#[tactic(auto, using(crate::proofs::Printing::written_shown))]
 fn shown(x: Line, reader: Label, out: &mut [u8], at: usize) -> usize
     requires { (at + 33 ≤ length out.old) × (is_page x.page ≡ true) }
     ensures text { Written (shown_text reader.0 (line_from x)) out.old at result out.new }
@@ -127,31 +114,14 @@ fn shown(x: Line, reader: Label, out: &mut [u8], at: usize) -> usize
 }
 
 // The first lines of an output space, those whose label flows to the reader's set.
-pub(crate) fn lines(
-    numbers: &[i64],
-    line_labels: &[i64],
-    kinds: &[i64],
-    pages: &[i64],
-    written: usize,
-    reader: Label,
-    out: &mut [u8],
-) -> usize
-    requires { (33 * length numbers.now ≤ length out.old) × PageWords pages.now }
-    ensures { Written
-        (lines_text reader.0
-        (lines_of written (output numbers.now line_labels.now kinds.now pages.now)))
+pub(crate) fn lines(space: Lines<'_>, written: usize, reader: Label, out: &mut [u8]) -> usize
+    requires { (33 * length space.pages.now ≤ length out.old) × PageWords space.pages.now }
+    ensures { Written (lines_text reader.0 (lines_of written (read_in space.entry)))
         out.old 0 result out.new }
 {
-    let count = shorter(
-        written,
-        room(numbers.len(), line_labels.len(), kinds.len(), pages.len()),
-    );
     let mut at: usize = 0;
-    let mut i: usize = 0;
-    while i < count {
-        let x = engine::line_at(numbers, line_labels, kinds, pages, i);
-        at = shown(x, reader, out, at);
-        i += 1;
+    for i in 0..written.min(space.room()) {
+        at = shown(space.at(i), reader, out, at);
     }
     at
 }

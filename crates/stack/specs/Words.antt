@@ -1,10 +1,13 @@
 -- The machine record and the lent stack, word by word: what the methods of this crate do, for all arguments.
-use Rattle.std.specs.Prelude.{ℕ, zero, suc, ◌+◌, ◌-◌, ◌*◌, ◌<◌, ◌≤◌, List, ℤ, pos, negsuc, length, get_or, set, ltb, leb, eqb}
+use Rattle.std.specs.Prelude.{ℕ, zero, suc, ◌+◌, ◌-◌, ◌*◌, ◌<◌, ◌≤◌, List, ℤ, pos, negsuc, length, get_or, set, ltb, leb, eqb, None, Ok, Result, Some}
 use Rattle.word.specs.Choose.{choose}
 use Rattle.word.specs.Wrap.{add_wrap}
 use Rattle.label.specs.Word.{low_label}
+use Rattle.machine.specs.declared.Stop.{Stop}
 use Rattle.stack.specs.declared.Machine.{Machine}
 use Rattle.stack.specs.declared.Stepped.{Stepped}
+use Rattle.stack.specs.declared.Kind.{Kind}
+use Rattle.stack.specs.declared.Kind.TheVariants.{Value, Frame, Owing, Nothing}
 use Rattle.stack.specs.declared.Slot.{Slot}
 
 abbrev pub machine : ℤ → ℕ → ℕ → ℕ → Machine
@@ -45,30 +48,33 @@ following m label = gone m (add_wrap m.pc.0 (pos 1)) label
 unfoldable pub printed : Machine → ℕ → Machine
 printed m room = choose (ltb m.lines room) (machine m.pc.0 m.label.0 m.depth (m.lines + 1)) m
 
--- what stands where a stop's number does, and is none: the command was carried out; it was, but for its line, which it hands back
-abbrev pub carried_out : ℕ
-carried_out = 256
+-- what a command came to: carried out, with its line or none, or its stop
+abbrev pub Stepping : Type 0
+Stepping = Result Stepped Stop
 
-abbrev pub prints : ℕ
-prints = 257
+abbrev pub carried : Machine → Stepping
+carried m = Ok (record { machine = m; line = None })
 
-abbrev pub outcome : Machine → ℕ → Stepped
-outcome m stop = record { machine = m; stop = stop; page = pos 0; number = pos 0; label = record { 0 = 0 } }
+abbrev pub printing : Machine → ℤ → ℤ → ℕ → Stepping
+printing m page number label = Ok (record { machine = m; line = Some (record { page = page; number = number; label = record { 0 = label } }) })
 
-abbrev pub printing : Machine → ℤ → ℤ → ℕ → Stepped
-printing m page number label = record { machine = m; stop = prints; page = page; number = number; label = record { 0 = label } }
-
--- the kind of an entry that is not there
-abbrev pub nothing_there : ℕ
-nothing_there = 256
-
-abbrev pub slot_of : ℕ → ℤ → ℕ → Slot
+abbrev pub slot_of : Kind → ℤ → ℕ → Slot
 slot_of kind number label = record { kind = kind; number = number; label = record { 0 = label } }
 
+-- where no entry is
+abbrev pub no_slot : Slot
+no_slot = slot_of Nothing (pos 0) 0
+
+abbrev pub by_kind : {A : Type 0} → Kind → (value frame owing nothing : A) → A
+by_kind Value a b c d = a
+by_kind Frame a b c d = b
+by_kind Owing a b c d = c
+by_kind Nothing a b c d = d
+
 -- a stored kind word: 0 is a value's, 2 that of a frame that owes a result, any other that of a frame that owes none
-abbrev pub kind_of : ℤ → ℕ
-kind_of (pos n) = choose (eqb n 0) 0 (choose (eqb n 2) 2 1)
-kind_of (negsuc n) = 1
+abbrev pub kind_of : ℤ → Kind
+kind_of (pos n) = choose (eqb n 0) Value (choose (eqb n 2) Owing Frame)
+kind_of (negsuc n) = Frame
 
 -- entry i of the stack, counted from the bottom
 unfoldable pub entry_at : List ℤ → ℕ → Slot
@@ -100,6 +106,5 @@ inserted_stack m n stack kind number label =
 -- the entry so many below the top of a stack of `depth` entries; nothing where these are over 256, or in a space for less
 unfoldable pub slot_at : List ℤ → ℕ → ℕ → Slot
 slot_at stack depth below =
-    let none = slot_of nothing_there (pos 0) 0 in
-    choose (leb depth below) none
-    (choose (ltb 256 depth) none (choose (ltb (length stack) 768) none (entry_at stack (depth - below - 1))))
+    choose (leb depth below) no_slot
+    (choose (ltb 256 depth) no_slot (choose (ltb (length stack) 768) no_slot (entry_at stack (depth - below - 1))))

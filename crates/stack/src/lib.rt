@@ -3,14 +3,15 @@
 
 ghost use Rattle.std.specs.Prelude.{◌≡◌, ◌+◌, pos};
 ghost use Rattle.stack.specs.Words.{started, pushed, pushed_stack, refilled_stack, dropped, gone, following, printed};
-ghost use Rattle.stack.specs.Words.{outcome, carried_out, printing, slot_of, nothing_there, slot_at, Entry, set_entry};
+ghost use Rattle.stack.specs.Words.{carried, printing, kind_of, slot_at, Entry, set_entry};
 ghost use Rattle.stack.specs.Words.{raised, lifted, inserted_stack};
 
 use label::Label;
+use machine::Stop;
 use word::kind::Pc;
 
 // The machine record: the place, its label, how many entries the stack has and how many lines are written.
-#[derive(Clone, Copy)]
+#[derive(Clone, Copy, PartialEq, Eq, Debug)]
 pub struct Machine {
     pub pc: Pc,
     pub label: Label,
@@ -31,8 +32,9 @@ impl Machine {
         }
     }
 
-    // One entry more: its kind, number and label, bottom first in the lent stack. A full stack stays as it is,
-    // and so does a space for less than 256 entries.
+    // One entry more: its kind word, number and label, bottom first in the lent stack. A full stack stays as it is, and so does a space for
+    // less than 256 entries, though the record counts the entry then too. The kind is the word that is stored: it may be any.
+    #[tactic(auto, unfolding(crate::specs::Words::pushed, crate::specs::Words::pushed_stack, crate::specs::Words::set_entry))]
     pub fn push(mut self, stack: &mut [i64], kind: i64, number: i64, label: Label) -> Machine
         ensures record { result ≡ pushed self }
         ensures stack { stack.new ≡ pushed_stack self stack.old kind number label.0 }
@@ -47,23 +49,21 @@ impl Machine {
         self
     }
 
-    // An entry in place of the top, but under the values below that, so many of which go one higher in their order.
+    // An entry in place of the top, but under the values below that, so many of which go one higher in their order. Its kind may be any word.
+    #[tactic(auto, unfolding(crate::specs::Words::inserted_stack))]
     pub fn insert(self, below: usize, stack: &mut [i64], kind: i64, number: i64, label: Label)
         ensures { stack.new ≡ inserted_stack self below stack.old kind number label.0 }
     {
         let depth = self.depth;
-        if below < depth {
-            if depth <= 256 {
-                if 768 <= stack.len() {
-                    let i = depth - below - 1;
-                    lift(stack, i, below);
-                    put(stack, i, kind, number, label);
-                }
-            }
+        if below < depth && depth <= 256 && 768 <= stack.len() {
+            let i = depth - below - 1;
+            lift(stack, i, below);
+            put(stack, i, kind, number, label);
         }
     }
 
     // An entry more, whose kind stays as the stack has it: one that was just dropped, with another number and label.
+    #[tactic(auto, unfolding(crate::specs::Words::pushed, crate::specs::Words::refilled_stack))]
     pub fn refill(mut self, stack: &mut [i64], number: i64, label: Label) -> Machine
         ensures record { result ≡ pushed self }
         ensures stack { stack.new ≡ refilled_stack self stack.old number label.0 }
@@ -73,7 +73,7 @@ impl Machine {
             if 768 <= stack.len() {
                 let at = 3 * depth;
                 stack[at + 1] = number;
-                stack[at + 2] = label.word();
+                stack[at + 2] = i64::from(label);
             }
             self.depth = depth + 1;
         }
@@ -81,26 +81,24 @@ impl Machine {
     }
 
     // One entry less. It keeps its content in the lent stack; an empty stack stays empty.
+    #[tactic(auto, unfolding(crate::specs::Words::dropped))]
     pub fn drop(mut self) -> Machine
         ensures { result ≡ dropped self }
     {
-        let depth = self.depth;
-        if 0 < depth {
-            self.depth = depth - 1;
-        }
+        self.depth = self.depth.saturating_sub(1);
         self
     }
 
     // At another place, with a place label.
-    pub fn goto(mut self, pc: Pc, label: Label) -> Machine
+    #[tactic(auto, unfolding(crate::specs::Words::gone))]
+    pub fn goto(self, pc: Pc, label: Label) -> Machine
         ensures { result ≡ gone self pc.0 label.0 }
     {
-        self.pc = pc;
-        self.label = label;
-        self
+        Machine { pc, label, ..self }
     }
 
     // At the next place.
+    #[tactic(auto, unfolding(crate::specs::Words::following))]
     pub fn following(self, label: Label) -> Machine
         ensures { result ≡ following self label.0 }
     {
@@ -108,18 +106,19 @@ impl Machine {
     }
 
     // One line more, if there is room for it.
+    #[tactic(auto, unfolding(crate::specs::Words::printed))]
     pub fn print(mut self, room: usize) -> Machine
         ensures { result ≡ printed self room }
     {
-        let lines = self.lines;
-        if lines < room {
-            self.lines = lines + 1;
+        if self.lines < room {
+            self.lines += 1;
         }
         self
     }
 }
 
-// An entry, counted from the bottom: its kind, number and label.
+// An entry, counted from the bottom: its kind word, its number and its label, as the C interface's stack space has them.
+#[tactic(auto, unfolding(crate::specs::Words::set_entry))]
 fn put(stack: &mut [i64], entry: usize, kind: i64, number: i64, label: Label)
     requires { Entry stack.old entry }
     ensures { stack.new ≡ set_entry stack.old entry kind number label.0 }
@@ -127,10 +126,11 @@ fn put(stack: &mut [i64], entry: usize, kind: i64, number: i64, label: Label)
     let i = 3 * entry;
     stack[i] = kind;
     stack[i + 1] = number;
-    stack[i + 2] = label.word();
+    stack[i + 2] = i64::from(label);
 }
 
 // The value of an entry, stored in the one above it.
+#[tactic(auto, unfolding(crate::specs::Words::raised, crate::specs::Words::entry_at))]
 fn raise(stack: &mut [i64], entry: usize)
     requires { Entry stack.old (entry + 1) }
     ensures { stack.new ≡ raised stack.old entry }
@@ -142,122 +142,105 @@ fn raise(stack: &mut [i64], entry: usize)
 }
 
 // So many values from an entry on, each one higher, the uppermost first.
+#[tactic(auto, using(crate::proofs::Entry::lifted_next, crate::proofs::Entry::lifted_none))]
 fn lift(stack: &mut [i64], entry: usize, count: usize)
     requires { Entry stack.old (entry + count) }
     ensures { stack.new ≡ lifted stack.old entry count }
 {
-    let mut left = count;
-    while 0 < left {
-        left -= 1;
-        raise(stack, entry + left);
+    for above in (0..count).rev() {
+        raise(stack, entry + above);
     }
 }
 
-// What stands where a stop's number does, and is no stop of documents 01 and 02: the command was carried out.
-pub const CARRIED: u64 = 256;
-
-// The same, but for its line, which it hands back.
-pub const PRINTS: u64 = 257;
-
-// A machine after a command: carried out, or stopped, and then the command changed nothing. A line that it hands back has the page, the
-// number and the label.
-#[derive(Drop)]
-pub struct Stepped {
-    pub machine: Machine,
-    pub stop: u64,
+// A line that a command hands back: its page, its number and its label.
+#[derive(Clone, Copy, PartialEq, Eq, Debug)]
+pub struct Printed {
     pub page: i64,
     pub number: i64,
     pub label: Label,
 }
 
-// Stopped with this number; no line.
-pub fn stopped(machine: Machine, stop: u64) -> Stepped
-    ensures { result ≡ outcome machine stop }
-{
-    Stepped {
-        machine,
-        stop,
-        page: 0,
-        number: 0,
-        label: Label::EMPTY,
-    }
+// A machine after a command that was carried out, and its line, if it has one, which is still to be written. A command that is not carried
+// out has its stop in place of it, and changes nothing.
+#[derive(Clone, Copy, PartialEq, Eq, Debug)]
+pub struct Stepped {
+    pub machine: Machine,
+    pub line: Option<Printed>,
 }
 
 // Carried out; no line.
-pub fn carried(machine: Machine) -> Stepped
-    ensures { result ≡ outcome machine carried_out }
+pub fn carried(machine: Machine) -> Result<Stepped, Stop>
+    ensures { result ≡ carried machine }
 {
-    stopped(machine, CARRIED)
+    Ok(Stepped {
+        machine,
+        line: None,
+    })
 }
 
-// Carried out, but for the line on this page with this number and label.
-pub fn printing(machine: Machine, page: i64, number: i64, label: Label) -> Stepped
+// Carried out, with the line on this page with this number and label.
+pub fn printing(machine: Machine, page: i64, number: i64, label: Label) -> Result<Stepped, Stop>
     ensures { result ≡ printing machine page number label.0 }
 {
-    Stepped {
-        machine,
-        stop: PRINTS,
+    let printed = Printed {
         page,
         number,
         label,
-    }
+    };
+    Ok(Stepped {
+        machine,
+        line: Some(printed),
+    })
 }
 
-// The kind of an entry that is not there: no kind word of documents 01 and 02.
-pub const NOTHING: u64 = 256;
+// What stands on the stack: a value, a frame that owes no result, a frame that owes one, or nothing.
+#[derive(Clone, Copy, PartialEq, Eq, Debug)]
+pub enum Kind {
+    Value,
+    Frame,
+    Owing,
+    Nothing,
+}
 
-// What stands on the stack, counted from the top: a value (kind 0), a frame that owes no result (1) or one (2), or nothing.
-#[derive(Drop)]
+// An entry, or nothing with number 0 and the empty label.
+#[derive(Clone, Copy, PartialEq, Eq, Debug)]
 pub struct Slot {
-    pub kind: u64,
+    pub kind: Kind,
     pub number: i64,
     pub label: Label,
 }
 
-fn nothing() -> Slot
-    ensures { result ≡ slot_of nothing_there (pos 0) 0 }
-{
-    Slot {
-        kind: NOTHING,
+impl Slot {
+    const NONE: Slot = Slot {
+        kind: Kind::Nothing,
         number: 0,
         label: Label::EMPTY,
+    };
+}
+
+// The kind that a stored word says: a value's is 0, that of a frame that owes a result 2, any other that of one that owes none.
+fn kind_of(word: i64) -> Kind
+    ensures { result ≡ kind_of word }
+{
+    match word {
+        0 => Kind::Value,
+        2 => Kind::Owing,
+        _ => Kind::Frame,
     }
 }
 
 // One test for the three words: with more than 256 entries, or in a space for less, nothing is found.
+#[tactic(auto, unfolding(crate::specs::Words::slot_at, crate::specs::Words::entry_at))]
 pub fn look(stack: &[i64], depth: usize, below: usize) -> Slot
     ensures { result ≡ slot_at stack.now depth below }
 {
-    if depth <= below {
-        return nothing();
-    }
-    if 256 < depth {
-        return nothing();
-    }
-    if stack.len() < 768 {
-        return nothing();
+    if depth <= below || 256 < depth || stack.len() < 768 {
+        return Slot::NONE;
     }
     let i = 3 * (depth - below - 1);
-    let kind = stack[i];
-    let number = stack[i + 1];
-    let label = Label::low(stack[i + 2]);
-    if kind == 0 {
-        return Slot {
-            kind: 0,
-            number,
-            label,
-        };
-    }
-    if kind == 2 {
-        return Slot {
-            kind: 2,
-            number,
-            label,
-        };
-    }
     Slot {
-        kind: 1,
-        number,
-        label,
+        kind: kind_of(stack[i]),
+        number: stack[i + 1],
+        label: Label::low(stack[i + 2]),
     }
 }

@@ -1,23 +1,20 @@
 -- What a command does on lent words, with the new place label p and the result label r of a ruling.
-use Rattle.std.specs.Prelude.{ℕ, List, ℤ, pos, ◌+ℤ◌, ◌-ℤ◌, ltb, eqb}
+use Rattle.std.specs.Prelude.{ℕ, List, ℤ, pos, ◌+ℤ◌, ◌-ℤ◌, ltb, eqb, Err, None, Option, Some}
 use Rattle.word.specs.Choose.{choose}
 use Rattle.word.specs.Number.{is_zero}
 use Rattle.word.specs.Wrap.{add_wrap}
-use Rattle.word.specs.declared.exact.Exact.{Exact}
 use Rattle.word.specs.Exact.{exactly}
 use Rattle.program.specs.Command.{arguments_of, results_of}
+use Rattle.machine.specs.declared.Stop.TheVariants.{AddressOutside, Overflow, StackFull}
 use Rattle.stack.specs.declared.Machine.{Machine}
-use Rattle.stack.specs.declared.Stepped.{Stepped}
-use Rattle.stack.specs.Words.{pushed, pushed_stack, refilled_stack, inserted_stack, dropped, gone, following, outcome, carried_out}
-use Rattle.stack.specs.Words.{printing}
-use Rattle.step.specs.declared.cell.Content.{Content}
-use Rattle.step.specs.declared.cell.Content.TheVariants.{Number, Outside}
+use Rattle.stack.specs.Words.{pushed, pushed_stack, refilled_stack, inserted_stack, dropped, gone, following}
+use Rattle.stack.specs.Words.{Stepping, carried, printing}
 use Rattle.step.specs.Lent.{Cells, Lent, After, after, OnStack, on_stack, with_stack, OnCells, on_cells, with_cells}
 use Rattle.step.specs.Cell.{cell_at, is_cell, number_of, written}
 use Rattle.step.specs.Find.{first, second}
 
 -- the word that the whole-number sum or difference is; Add has code 1, Sub 2
-unfoldable pub sum_of : ℕ → ℤ → ℤ → Exact
+unfoldable pub sum_of : ℕ → ℤ → ℤ → Option ℤ
 sum_of code a b = choose (eqb code 1) (exactly (a +ℤ b)) (exactly (a -ℤ b))
 
 -- Bnz's target: a place and an operand of a sheet, whose sum does not wrap
@@ -30,30 +27,30 @@ frame_kind results = choose (ltb 0 results) (pos 2) (pos 1)
 
 -- a value in place of one that m just dropped
 abbrev pub refilling : Machine → List ℤ → ℤ → ℕ → ℕ → OnStack
-refilling m stack number label p = on_stack (outcome (following (pushed m) p) carried_out) (refilled_stack m stack number label)
+refilling m stack number label p = on_stack (carried (following (pushed m) p)) (refilled_stack m stack number label)
 
 module _ (p r : ℕ) (m : Machine) where
-  abbrev pub arith_from : List ℤ → Exact → OnStack
-  arith_from stack Exact.Outside = on_stack (outcome m 9) stack
-  arith_from stack (Exact.Number number) = refilling (dropped (dropped m)) stack number r p
+  abbrev pub arith_from : List ℤ → Option ℤ → OnStack
+  arith_from stack None = on_stack (Err Overflow) stack
+  arith_from stack (Some number) = refilling (dropped (dropped m)) stack number r p
 
   unfoldable pub arith_effect : ℕ → List ℤ → OnStack
   arith_effect code stack = arith_from stack (sum_of code (first m stack).number (second m stack).number)
 
   -- Output writes to page 0, OutputTo to its operand
-  unfoldable pub output_effect : ℤ → List ℤ → Stepped
+  unfoldable pub output_effect : ℤ → List ℤ → Stepping
   output_effect page stack = printing (following (dropped m) p) page (first m stack).number r
 
   -- with room on the stack
   unfoldable pub push_effect : ℤ → List ℤ → OnStack
   push_effect operand stack =
       choose (ltb m.depth 256)
-      (on_stack (outcome (following (pushed m) p) carried_out) (pushed_stack m stack (pos 0) operand r))
-      (on_stack (outcome m 7) stack)
+      (on_stack (carried (following (pushed m) p)) (pushed_stack m stack (pos 0) operand r))
+      (on_stack (Err StackFull) stack)
 
-  abbrev pub load_from : List ℤ → Content → OnStack
-  load_from stack Outside = on_stack (outcome m 5) stack
-  load_from stack (Number number) = refilling (dropped m) stack number r p
+  abbrev pub load_from : List ℤ → Option ℤ → OnStack
+  load_from stack None = on_stack (Err AddressOutside) stack
+  load_from stack (Some number) = refilling (dropped m) stack number r p
 
   unfoldable pub load_effect : List ℤ → List ℤ → OnStack
   load_effect stack values = load_from stack (number_of values (cell_at (first m stack).number values))
@@ -62,14 +59,14 @@ module _ (p r : ℕ) (m : Machine) where
   store_effect stack c =
       let cell = cell_at (first m stack).number c.values in
       on_cells
-      (choose (is_cell cell) (outcome (following (dropped (dropped m)) p) carried_out) (outcome m 5))
+      (choose (is_cell cell) (carried (following (dropped (dropped m)) p)) (Err AddressOutside))
       (written (second m stack).number r c cell)
 
   -- a frame of a kind under so many arguments
   unfoldable pub call_effect : ℕ → ℤ → List ℤ → OnStack
   call_effect n kind stack =
       on_stack
-      (outcome (gone m (first m stack).number p) carried_out)
+      (carried (gone m (first m stack).number p))
       (inserted_stack m n stack kind (add_wrap m.pc.0 (pos 1)) r)
 
   -- to the frame's place; the value stands where the frame stood
@@ -77,20 +74,20 @@ module _ (p r : ℕ) (m : Machine) where
   return_effect stack =
       let under = dropped (dropped m) in
       on_stack
-      (outcome (gone (pushed under) (second m stack).number p) carried_out)
+      (carried (gone (pushed under) (second m stack).number p))
       (pushed_stack under stack (pos 0) (first m stack).number r)
 
 -- those without a result
 module _ (p : ℕ) (m : Machine) where
-  unfoldable pub pop_effect : Stepped
-  pop_effect = outcome (following (dropped m) p) carried_out
+  unfoldable pub pop_effect : Stepping
+  pop_effect = carried (following (dropped m) p)
 
   -- Jump and Ret go to the number on top
-  unfoldable pub jump_effect : List ℤ → Stepped
-  jump_effect stack = outcome (gone (dropped m) (first m stack).number p) carried_out
+  unfoldable pub jump_effect : List ℤ → Stepping
+  jump_effect stack = carried (gone (dropped m) (first m stack).number p)
 
-  unfoldable pub bnz_effect : ℤ → List ℤ → Stepped
-  bnz_effect operand stack = outcome (gone (dropped m) (branch_of (first m stack).number m.pc.0 operand) p) carried_out
+  unfoldable pub bnz_effect : ℤ → List ℤ → Stepping
+  bnz_effect operand stack = carried (gone (dropped m) (branch_of (first m stack).number m.pc.0 operand) p)
 
 -- by the code of the command, as the code of this crate chooses
 unfoldable pub effect_of : (p r : ℕ) → Machine → ℕ → ℤ → Lent → After

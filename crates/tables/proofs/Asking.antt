@@ -1,29 +1,27 @@
 -- The rule with a number in bytes that are a table: after the rules before it, the next is that one.
 -- Assumes nothing.
+use Rattle.std.proofs.Common.{Err, Ok, Option, Some, slice_get}
 use mathlib.Core.Path.{◌≡◌, refl, sym, ap, ◌∙◌}
 use mathlib.Core.Bool.{Bool, true, false}
 use mathlib.Core.List.{List, ◌∷◌}
-use mathlib.Core.Option.{some}
 use Prim.Native.Nat.{ℕ, ◌+◌, ◌<◌, ◌≤◌}
 use native.Mathlib.Omega.{arith}
 use lib.Dec.{leb, ltb}
-use lib.ListN.{length, drop, get_elem?}
+use lib.ListN.{length, drop}
 use lib.Seq.{drop-drop}
 use Rattle.word.proofs.Bool.{never}
 use Rattle.program.specs.Command.{Opcode, ruled, opcode_of, supplies, rule_number}
 use Rattle.tables.specs.declared.Labels.{Labels}
-use Rattle.tables.specs.declared.Verdict.{Verdict}
-use Rattle.tables.specs.declared.Checked.TheVariants as Checked
-use Rattle.tables.specs.declared.RuleRead.{RuleRead}
 use Rattle.policy.specs.Expression.{Rule, Table}
 use Rattle.policy.specs.Evaluate.{eval_rule, evaluate}
-use Rattle.policy.specs.Read.{Read, fault, found, prepend, rule_count, read_rules, ReadTable, refused, table, whole, whole_if, table_if}
+use Rattle.policy.specs.Read.{Read, fault, found, prepend, rule_count, read_rules, table, whole, whole_if, table_if}
 use Rattle.policy.specs.Read.{owner_code, table_limit, read_table}
 use Rattle.tables.specs.Value.{key_of}
-use Rattle.tables.specs.Ask.{verdict_of, CodeAt, check_answer, Readable, RuleSays}
+use Rattle.tables.specs.Ask.{verdict_of, CodeAt, Readable, RuleSays}
 use Rattle.policy.proofs.Tokens.{get_elem-drop}
 use Rattle.policy.proofs.Ruled.{owner-inputs}
 use Rattle.tables.proofs.TableReading.{Next, reads}
+use Rattle.tables.specs.declared.Allowed.{Allowed}
 
 -- what is left to read, after i rules were passed, are the table's other rules; the one with the number is not passed
 pub record Passing (s : List ℕ) (number i at : ℕ) : Type 0 where
@@ -77,14 +75,14 @@ module _ (ls : Labels) (s : List ℕ) (number i at : ℕ) (p : Passing s number 
   i-few : i < rule_count
   i-few = omega (arith, p.before, p.few)
 
-  pub passing-whole : (q : ℕ) → CodeAt (opcode_of (owner_code i)) ls s at (RuleRead.Fault q) → ⊥
+  pub passing-whole : (q : ℕ) → CodeAt (opcode_of (owner_code i)) ls s at (Err q) → ⊥
   passing-whole q f =
-      let d : fault q ≡ found (drop i p.rules) p.end = sym (reads ls s i at i-few (RuleRead.Fault q) f) ∙ p.left in
+      let d : fault q ≡ found (drop i p.rules) p.end = sym (reads ls s i at i-few (Err q) f) ∙ p.left in
       never (cc)
 
-  module _ (v : Verdict) (next : ℕ) (f : CodeAt (opcode_of (owner_code i)) ls s at (RuleRead.Is v next)) where
+  module _ (v : Option Allowed) (next : ℕ) (f : CodeAt (opcode_of (owner_code i)) ls s at (Ok (v, next))) where
     n : Next ls s i at v next
-    n = reads ls s i at i-few (RuleRead.Is v next) f
+    n = reads ls s i at i-few (Ok (v, next)) f
 
     cut : Parts n.rule (read_rules (drop (i + 1) ruled) s next) (drop i p.rules) p.end
     cut = parts n.rule _ _ _ (sym n.rules ∙ p.left)
@@ -103,11 +101,11 @@ module _ (ls : Labels) (s : List ℕ) (number i at : ℕ) (p : Passing s number 
     -- the next rule is the one with the number
     module _ (h : number ≤ i) where
       own : (o : Opcode) → rule_number o ≡ i
-          → evaluate p.rules (key_of o (supplies o) ls) ≡ eval_rule (some n.rule) (key_of o (supplies n.owner) ls)
+          → evaluate p.rules (key_of o (supplies o) ls) ≡ eval_rule (Some n.rule) (key_of o (supplies n.owner) ls)
       unfolding evaluate
       own o e =
           rw (
-            owner-inputs o n.owner (ap (get_elem? ruled) e ∙ n.owns),
+            owner-inputs o n.owner (ap (slice_get ruled) e ∙ n.owns),
             e,
             get_elem-drop p.rules i n.rule cut.rest cut.whole_is,
           )
@@ -117,7 +115,6 @@ module _ (ls : Labels) (s : List ℕ) (number i at : ℕ) (p : Passing s number 
           let d : rule_number o ≡ i = omega (arith, p.before) in
           n.said o ∙ sym (rw p.is (ap verdict_of (own o d)))
 
--- accepted bytes are a table
-pub accepted-readable : (x : ReadTable) → check_answer x ≡ Checked.Accepted → Readable x
-accepted-readable (refused r) e = let z : ◌≡◌ {A = ℕ} 0 1 = cc in absurd (omega arith)
-accepted-readable (table t) e = tt
+-- once the rules before it are passed
+pub passing-there : (s : List ℕ) (number i at : ℕ) → Passing s number i at → number ≤ i → Passing s number number at
+passing-there s number i at p h = let e : i ≡ number = omega (arith, p.before) in rw e at p

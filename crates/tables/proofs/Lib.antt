@@ -1,5 +1,4 @@
-pub mod LabelReading
-pub mod ConditionReading
+pub mod Reading
 pub mod RuleReading
 pub mod TableReading
 pub mod Asking

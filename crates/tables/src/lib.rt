@@ -7,18 +7,24 @@ pub mod row;
 
 ghost use Rattle.std.specs.Prelude.{◌≡◌, ◌<◌};
 ghost use Rattle.program.specs.Command.{opcode_of};
-ghost use Rattle.machine.specs.Rule.{allowed_if};
+ghost use Rattle.program.specs.Decode.{refusal};
 ghost use Rattle.policy.specs.Read.{rule_count, read_table};
 ghost use Rattle.tables.specs.Value.{ResultAt};
-ghost use Rattle.tables.specs.Ask.{verdict_of, RuleAt, CodeAt, check_answer, Readable, RuleSays};
+ghost use Rattle.tables.specs.Ask.{RuleAt, CodeAt, check_answer, Readable, RuleSays};
 
-use expression::{ConditionRead, LabelRead, read_condition, read_label};
+use expression::{Read, read_condition, read_label};
 use label::Label;
 use policy::{RULES, owner};
-use program::{Refusal, Shape, shape_of};
+use program::{Refusal, shape_of};
+
+// The largest number of bytes of a table.
+const TABLE_LIMIT: usize = 512;
+
+// An expression may hold expressions, at most so deep; a lone byte is 1 deep.
+pub const DEPTH_LIMIT: usize = 8;
 
 // The labels that a rule is asked with: P, and L1 to L3, of which those that the command does not supply do not count.
-#[derive(Clone, Copy)]
+#[derive(Clone, Copy, PartialEq, Eq)]
 pub struct Labels {
     pub place: Label,
     pub input1: Label,
@@ -26,97 +32,71 @@ pub struct Labels {
     pub input3: Label,
 }
 
-// What a rule says: not allowed, or allowed with the new place label and the result label.
-#[derive(Drop)]
-pub enum Verdict {
-    Denied,
-    Allowed(Label, Label),
+// How many inputs the command supplies that a rule is asked for, and the labels.
+#[derive(Clone, Copy)]
+pub(crate) struct Asked {
+    pub supplied: usize,
+    pub labels: Labels,
 }
 
-// The answer to a check of a rule table.
-#[derive(Drop)]
-pub enum Checked {
-    Accepted,
-    Refused(Refusal),
+// What a rule says where it allows: the new place label and the result label.
+#[derive(Clone, Copy, PartialEq, Eq)]
+pub struct Allowed {
+    pub place: Label,
+    pub result: Label,
 }
 
-// A rule at an offset: what it says at the labels and the offset after it, or the offset of the byte at fault.
-#[derive(Drop)]
-enum RuleRead {
-    Is(Verdict, usize),
-    Fault(usize),
-}
-
-fn verdict_if(allowed: bool, place: Label, res: Label) -> Verdict
-    ensures { result ≡ verdict_of (allowed_if allowed place.0 res.0) }
-{
-    if allowed {
-        Verdict::Allowed(place, res)
-    } else {
-        Verdict::Denied
-    }
-}
+// What a rule says; None: not allowed.
+pub type Verdict = Option<Allowed>;
 
 // The result of a rule: where the command has none, it must be the byte 10.
-fn read_result(bytes: &[u8], at: usize, supplied: usize, res: bool, labels: Labels) -> LabelRead
-    ensures { ResultAt res supplied labels bytes.now at result }
+fn read_result(bytes: &[u8], at: usize, has: bool, asked: Asked) -> Read<Label>
+    ensures { ResultAt has asked bytes.now at result }
 {
-    if res {
-        return read_label(bytes, at, 8, supplied, labels);
+    if has {
+        return read_label(bytes, at, DEPTH_LIMIT, asked);
     }
-    if bytes.len() <= at {
-        return LabelRead::Fault(at);
-    }
-    if bytes[at] == 0x10 {
-        LabelRead::Is(Label::EMPTY, at + 1)
-    } else {
-        LabelRead::Fault(at)
+    match bytes.get(at) {
+        Some(0x10) => Ok((Label::EMPTY, at + 1)),
+        _ => Err(at),
     }
 }
 
 // A rule of a command of a shape: three expressions (allowed, place, result).
-fn read_rule_with(bytes: &[u8], at: usize, supplied: usize, res: bool, labels: Labels) -> RuleRead
-    ensures { RuleAt supplied res labels bytes.now at result }
+fn read_rule_with(bytes: &[u8], at: usize, has: bool, asked: Asked) -> Read<Verdict>
+    ensures { RuleAt asked has bytes.now at result }
 {
-    let allowed = read_condition(bytes, at, 8, supplied, labels);
-    match allowed {
-        ConditionRead::Fault(fault) => RuleRead::Fault(fault),
-        ConditionRead::Is(yes, at2) => {
-            let place = read_label(bytes, at2, 8, supplied, labels);
-            match place {
-                LabelRead::Fault(fault) => RuleRead::Fault(fault),
-                LabelRead::Is(p, at3) => {
-                    let last = read_result(bytes, at3, supplied, res, labels);
-                    match last {
-                        LabelRead::Fault(fault) => RuleRead::Fault(fault),
-                        LabelRead::Is(l, end) => RuleRead::Is(verdict_if(yes, p, l), end),
-                    }
-                }
-            }
-        }
-    }
+    let (allowed, at) = read_condition(bytes, at, DEPTH_LIMIT, asked)?;
+    let (place, at) = read_label(bytes, at, DEPTH_LIMIT, asked)?;
+    let (result, end) = read_result(bytes, at, has, asked)?;
+    Ok((allowed.then_some(Allowed { place, result }), end))
 }
 
 // The rule of the command with a code.
-fn read_rule(bytes: &[u8], at: usize, code: u64, labels: Labels) -> RuleRead
+fn read_rule(bytes: &[u8], at: usize, code: u64, labels: Labels) -> Read<Verdict>
     ensures { CodeAt (opcode_of code) labels bytes.now at result }
 {
-    let shape = shape_of(code);
-    match shape {
-        Shape::Of(_, supplied, result, _) => read_rule_with(bytes, at, supplied, result, labels),
-        Shape::Unknown => RuleRead::Fault(at),
-    }
+    let shape = shape_of(code).ok_or(at)?;
+    let asked = Asked {
+        supplied: shape.inputs,
+        labels,
+    };
+    read_rule_with(bytes, at, shape.result, asked)
+}
+
+// Check 6 refuses bytes at a position.
+fn refused(position: usize) -> Refusal
+    ensures { result ≡ refusal 6 position }
+{
+    Refusal { code: 6, position }
 }
 
 // Check 6 of document 01 over any bytes. Any labels do, as the verdicts are not looked at.
-pub fn check_table(bytes: &[u8]) -> Checked
+pub fn check_table(bytes: &[u8]) -> Result<(), Refusal>
     ensures { result ≡ check_answer (read_table bytes.now) }
 {
-    if 512 < bytes.len() {
-        return Checked::Refused(Refusal {
-            code: 6,
-            position: 512,
-        });
+    if TABLE_LIMIT < bytes.len() {
+        return Err(refused(TABLE_LIMIT));
     }
     let labels = Labels {
         place: Label::EMPTY,
@@ -124,30 +104,14 @@ pub fn check_table(bytes: &[u8]) -> Checked
         input2: Label::EMPTY,
         input3: Label::EMPTY,
     };
-    let mut at: usize = 0;
-    let mut i: u64 = 0;
-    while i < RULES {
-        let rule = read_rule(bytes, at, owner(i), labels);
-        match rule {
-            RuleRead::Is(_, next) => {
-                at = next;
-                i += 1;
-            }
-            RuleRead::Fault(fault) => {
-                return Checked::Refused(Refusal {
-                    code: 6,
-                    position: fault,
-                });
-            }
-        }
+    let mut at = 0;
+    for i in 0..RULES {
+        (_, at) = read_rule(bytes, at, owner(i), labels).map_err(refused)?;
     }
     if at < bytes.len() {
-        Checked::Refused(Refusal {
-            code: 6,
-            position: at,
-        })
+        Err(refused(at))
     } else {
-        Checked::Accepted
+        Ok(())
     }
 }
 
@@ -156,21 +120,10 @@ fn rule_of(bytes: &[u8], number: u64, labels: Labels) -> Verdict
     requires { Readable (read_table bytes.now) × (number < rule_count) }
     ensures { RuleSays (read_table bytes.now) number labels result }
 {
-    let mut at: usize = 0;
-    let mut i: u64 = 0;
-    while i < number {
-        let rule = read_rule(bytes, at, owner(i), labels);
-        match rule {
-            RuleRead::Is(_, next) => {
-                at = next;
-                i += 1;
-            }
-            RuleRead::Fault(_) => return Verdict::Denied,
-        }
+    let mut at = 0;
+    for i in 0..number {
+        (_, at) = read_rule(bytes, at, owner(i), labels).ok()?;
     }
-    let rule = read_rule(bytes, at, owner(i), labels);
-    match rule {
-        RuleRead::Is(verdict, _) => verdict,
-        RuleRead::Fault(_) => Verdict::Denied,
-    }
+    let (verdict, _) = read_rule(bytes, at, owner(number), labels).ok()?;
+    verdict
 }

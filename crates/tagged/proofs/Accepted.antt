@@ -1,7 +1,8 @@
 -- From an accepted start to the whole run: the table, the rule memory and the handler space are as the limits say, the handler lies in its
 -- space, and what the loop leaves is the definition's.
 -- Assumes nothing.
-use mathlib.Core.Path.{◌≡◌, refl, sym, ap₂, ◌∙◌}
+use Rattle.std.proofs.Common.{Err, Ok}
+use mathlib.Core.Path.{◌≡◌, refl, sym, ap, ap₂, ◌∙◌}
 use mathlib.Core.Bool.{true}
 use mathlib.Core.List.{List}
 use Prim.Native.Nat.{ℕ, ◌*◌, ◌≤◌}
@@ -13,18 +14,16 @@ use Rattle.word.specs.Lay.{laid}
 use Rattle.word.proofs.Bool.{never}
 use Rattle.program.specs.declared.Command.{Command}
 use Rattle.program.specs.declared.Refusal.{Refusal}
-use Rattle.program.specs.declared.Checked.TheVariants as Checked
 use Rattle.program.specs.Decode.{Decoded, refused, accepted, check_answer}
-use Rattle.program.specs.Space.{program_words}
+use Rattle.program.specs.Space.{program_words, write_space}
+use Rattle.program.proofs.Loading.{written-accepted}
 use Rattle.stack.specs.Words.{started}
 use Rattle.engine.specs.declared.Clearances.{Clearances}
-use Rattle.engine.specs.declared.Answer.TheVariants as Answer
-use Rattle.engine.specs.declared.start.Limit.TheVariants.{Kept}
 use Rattle.engine.specs.declared.start.Own.{Own}
 use Rattle.engine.specs.Memory.{Memory, memory, surroundings}
 use Rattle.engine.specs.Loop.{Done, loop_of}
 use Rattle.engine.specs.Ended.{ended}
-use Rattle.engine.proofs.Accepted.{test-kept, answer, Fine, start_fine, refused-is, loop-whole}
+use Rattle.engine.proofs.Accepted.{test-kept, answer, Fine, start_fine, taken, few, refused-is, loop-whole}
 use Rattle.policy.specs.Expression.{Table}
 use Rattle.policy.specs.Read.{ReadTable, table, read_table}
 use Rattle.policy.specs.Read as Read
@@ -35,6 +34,8 @@ use Rattle.handler.specs.Space.{kernel_words, handle_space}
 use Rattle.handler.specs.Translate.{translate, handler_of}
 use Rattle.handler.proofs.Shape.{handler-length}
 use Rattle.handler.proofs.Space.{handle_space-laid}
+use Rattle.translator.specs.Emit.{table_code, put_code}
+use Rattle.translator.proofs.Translating.{written-table}
 use Rattle.tagging.specs.Consult.{Tag, tag_ruler}
 use Rattle.tagging.proofs.Ruled.{rules-range}
 use Rattle.tagged.specs.Ruling.{tag_words}
@@ -43,12 +44,12 @@ use Rattle.tagged.specs.Tagged.{left, tag_of, handler_after, tagged_of, tagged}
 use Rattle.tagged.proofs.Following.{tag-follows}
 
 -- a table that is kept
-table_kept : (q : ReadTable) → rules_limit q ≡ Kept → (t : Table) × (q ≡ table t)
+table_kept : (q : ReadTable) → rules_limit q ≡ Ok tt → (t : Table) × (q ≡ table t)
 table_kept (Read.refused r) e = never (cc)
 table_kept (table t) e = (t, refl)
 
 -- its handler is short
-pub handler-few : (bytes : List ℕ) (t : Table) → read_table bytes ≡ table t → length (translate t) ≤ 8192
+handler-few : (bytes : List ℕ) (t : Table) → read_table bytes ≡ table t → length (translate t) ≤ 8192
 handler-few bytes t q = handler-length t (read-writable bytes t q)
 
 module _ (sheet bytes : List ℕ) (row : List ℤ) (c : Clearances) (m : Memory) (handler : List ℤ) (fuel : ℕ) where
@@ -88,12 +89,12 @@ module _ (sheet bytes : List ℕ) (row : List ℤ) (c : Clearances) (m : Memory)
   -- The whole
   -- ══════════════════════════════════════════════════════════════════════════════════════════
 
-  pub execute-refused : (r : Refusal) → Checked.Refused r ≡ check_answer began
-      → left (ended (Answer.Refused r) (tag_of row) m) handler ≡ tagged sheet bytes row c m handler fuel
+  pub execute-refused : (r : Refusal) → Err r ≡ check_answer began
+      → left (ended (Err r) (tag_of row) m) handler ≡ tagged sheet bytes row c m handler fuel
   unfolding tagged
   execute-refused r e = ap₂ left (refused-is sheet c m fuel own (tag_ruler (handler_of (read_table bytes))) (tag_of row) r e) (kept began e)
     where
-      kept : (d : Decoded) → Checked.Refused r ≡ check_answer d → handler ≡ handler_after d (read_table bytes) handler
+      kept : (d : Decoded) → Err r ≡ check_answer d → handler ≡ handler_after d (read_table bytes) handler
       kept (refused q) e = refl
       kept (accepted cs) e = never (cc)
 
@@ -103,7 +104,7 @@ module _ (sheet bytes : List ℕ) (row : List ℤ) (c : Clearances) (m : Memory)
         → program ≡ laid (program_words cs) m.program → space ≡ laid (kernel_words (translate t)) handler → n ≡ length (translate t)
         → (d : Done Tag)
         → d ≡ loop_of (tag_words (handle_space space n)) count (surroundings c m.output) program fuel 0 started (tag_of row) m.lent m.output
-        → left (ended (Answer.Stopped d.ran) d.ruler (memory program d.lent d.output)) space
+        → left (ended (Ok d.ran) d.ruler (memory program d.lent d.output)) space
         ≡ tagged sheet bytes row c m handler fuel
     unfolding tagged
     execute-accepted count k program space n p h size d g =
@@ -114,3 +115,41 @@ module _ (sheet bytes : List ℕ) (row : List ℤ) (c : Clearances) (m : Memory)
         (tag-follows (handle_space space n) (translate t) handles) (rules-range (translate t)) (tag_of row) count k program p d g)
         h
         ∙ sym (ap₂ (λ d q. tagged_of d q row c m handler fuel) is ready.rules)
+
+  -- a start that answered with a count of commands, and the length of the handler
+  module _ (octets : Bytes sheet) (count : ℕ) (checked : Ok count ≡ check_answer began)
+      (size : ℕ) (sized : size ≡ length (handler_of (read_table bytes))) where
+    abbrev commands : List Command
+    commands = (taken sheet c m fuel own count checked).0
+
+    accepts : began ≡ accepted commands
+    accepts = (taken sheet c m fuel own count checked).1
+
+    counted : count ≡ length commands
+    counted = (taken sheet c m fuel own count checked).2
+
+    abbrev rules : Table
+    rules = (start-ready commands accepts).0
+
+    ready : Ready commands rules
+    ready = (start-ready commands accepts).1
+
+    length_is : size ≡ length (translate rules)
+    length_is = sized ∙ ap (λ q. length (handler_of q)) ready.rules
+
+    pub loop_needs : (count ≤ 4096) × (size ≤ 8192) × (fuel ≤ 1000000)
+    loop_needs = (
+      rw counted (few sheet c m fuel own octets commands ready.fine),
+      rw length_is (handler-few bytes rules ready.rules),
+      ready.fine.allowance,
+    )
+
+    pub run_is : (program space : List ℤ) → program ≡ write_space sheet m.program → space ≡ put_code 0 (table_code bytes) handler
+        → (d : Done Tag)
+        → d ≡ loop_of (tag_words (handle_space space size)) count (surroundings c m.output) program fuel 0 started (tag_of row) m.lent m.output
+        → left (ended (Ok d.ran) d.ruler (memory program d.lent d.output)) space
+        ≡ tagged sheet bytes row c m handler fuel
+    run_is program space p h =
+        execute-accepted octets commands accepts rules ready count counted program space size
+        (p ∙ written-accepted sheet commands m.program ready.fine.decoded ready.fine.program)
+        (h ∙ written-table bytes rules handler ready.rules ready.fits) length_is

@@ -1,5 +1,6 @@
 -- The counts of the run on words: a command adds at most one fault, of at most `size` kernel steps, to whatever they are. So they fit.
 -- Assumes nothing.
+use Rattle.std.proofs.Common.{Err, Ok}
 use mathlib.Core.Path.{◌≡◌, sym, ap, ◌∙◌}
 use mathlib.Core.Bool.{Bool, true, false}
 use mathlib.Core.List.{List}
@@ -7,14 +8,11 @@ use Prim.Native.Nat.{ℕ, ◌+◌, ◌*◌, ◌^◌, ◌<◌, ◌≤◌}
 use native.Mathlib.Nat.{zero-add, add-zero, mul-le-mul}
 use native.Mathlib.Omega.{arith}
 use lib.IntN.{ℤ}
-use lib.Dec.{eqb}
-use Rattle.word.specs.Choose.{choose}
 use Rattle.word.specs.Wrap.{residue}
 use Rattle.stack.specs.declared.Machine.{Machine}
-use Rattle.stack.specs.Words.{carried_out}
 use Rattle.step.specs.Lent.{Lent}
-use Rattle.step.specs.Find.{find_of}
-use Rattle.engine.specs.Act.{Acted, acted, act_of}
+use Rattle.step.specs.Find.{Found, find_of}
+use Rattle.engine.specs.Act.{Acted, acted, act_found, act_of}
 use Rattle.handler.specs.Kernel.{Result}
 use Rattle.tagging.specs.Consult.{Tag, tag, Five, matches, missed, consult_if, consult, counted}
 use Rattle.tagged.specs.Ruling.{tag_words}
@@ -56,15 +54,16 @@ module _ (handler : List ℤ → Result) (word operand : ℤ) (m : Machine) (l :
   abbrev acts : Tag → Acted Tag
   acts u = act_of (tag_words handler) word operand m u l
 
-  choose-added : (u : Tag) (b : Bool) (x y x' y' : Acted Tag) → x ≡ acted x'.after (added u x'.ruler)
-      → y ≡ acted y'.after (added u y'.ruler)
-      → let z : Acted Tag = choose b x' y' in choose b x y ≡ acted z.after (added u z.ruler)
-  choose-added u true x y x' y' d e = d
-  choose-added u false x y x' y' d e = e
+  abbrev finds : Found → Tag → Acted Tag
+  finds f u = act_found (tag_words handler) word operand m u l f
+
+  found-added : (u : Tag) (f : Found) → let a : Acted Tag = finds f (tag u.row 0 0) in finds f u ≡ acted a.after (added u a.ruler)
+  found-added u (Ok i) = simp zero-add
+  found-added u (Err stop) = simp add-zero
 
   added-all : (u : Tag) → let a : Acted Tag = acts (tag u.row 0 0) in acts u ≡ acted a.after (added u a.ruler)
   unfolding act_of
-  added-all u = choose-added u (eqb (find_of (residue 64 word) operand m l).stop carried_out) _ _ _ _ (simp zero-add) (simp add-zero)
+  added-all u = found-added u (find_of (residue 64 word) operand m l)
 
   -- a command does the same whatever the counts are, and adds to them
   pub act-added : (u : Tag) (a : Acted Tag) → a ≡ acts (tag u.row 0 0) → acted a.after (added u a.ruler) ≡ acts u
@@ -79,15 +78,13 @@ module _ (handler : List ℤ → Result) (word operand : ℤ) (m : Machine) (l :
         go true = record { faults = omega arith; kernel_steps = omega arith }
         go false = record { faults = omega arith; kernel_steps = omega (arith, short (missed f)) }
 
-    choose-few : (b : Bool) (x y : Acted Tag) → Few size 1 x.ruler → Few size 1 y.ruler → Few size 1 (choose b x y).ruler
-    choose-few true x y f g = f
-    choose-few false x y f g = g
+    found-few : (row : List ℤ) (f : Found) → Few size 1 (finds f (tag row 0 0)).ruler
+    found-few row (Ok i) = consult-few row _
+    found-few row (Err stop) = record { faults = omega arith; kernel_steps = omega arith }
 
     few-all : (row : List ℤ) → Few size 1 (acts (tag row 0 0)).ruler
     unfolding act_of
-    few-all row =
-        choose-few (eqb (find_of (residue 64 word) operand m l).stop carried_out) _ _ (consult-few row _)
-        (record { faults = omega arith; kernel_steps = omega arith })
+    few-all row = found-few row (find_of (residue 64 word) operand m l)
 
     pub act-few : (row : List ℤ) (a : Acted Tag) → a ≡ acts (tag row 0 0) → Few size 1 a.ruler
     act-few row a e = rw e (few-all row)

@@ -2,7 +2,6 @@ pub mod Seven
 pub mod Acting
 pub mod Counts
 pub mod Following
-pub mod Starting
 pub mod Accepted
 pub mod Reading
 pub mod Numbers

@@ -1,5 +1,6 @@
 -- What the tag engine refuses has a number, which is not 0.
 -- Assumes nothing.
+use Rattle.std.proofs.Common.{Err}
 use mathlib.Core.Path.{◌≡◌}
 use mathlib.Core.Bool.{Bool, true, false}
 use mathlib.Core.List.{List}
@@ -12,7 +13,6 @@ use Rattle.program.specs.Command.{ruled}
 use Rattle.program.specs.declared.Refusal.{Refusal}
 use Rattle.program.specs.Decode.{refusal}
 use Rattle.engine.specs.declared.Clearances.{Clearances}
-use Rattle.engine.specs.declared.Answer.TheVariants as Answer
 use Rattle.engine.specs.Memory.{Memory}
 use Rattle.engine.specs.Start.{given}
 use Rattle.engine.proofs.Numbers.{LimitNumbered, broken, kept, kept-numbered, OwnNumbered, start-numbered, answer-numbered}
@@ -50,7 +50,7 @@ own-numbered bytes row space =
     }
 
 pub tagged-numbered : (sheet bytes : List ℕ) (row : List ℤ) (c : Clearances) (m : Memory) (handler : List ℤ) (fuel : ℕ) (q : Refusal)
-    → (tagged sheet bytes row c m handler fuel).ended.answer ≡ Answer.Refused q → 1 ≤ q.code
+    → (tagged sheet bytes row c m handler fuel).ended.answer ≡ Err q → 1 ≤ q.code
 unfolding tagged
 tagged-numbered sheet bytes row c m handler fuel q e =
     answer-numbered (tag_ruler (handler_of (read_table bytes))) (start_tagged sheet (read_table bytes) row c m handler fuel) (tag_of row) c m fuel

@@ -1,6 +1,7 @@
 -- What the tag engine promises of the table that it is given: the handler in its space, and the run of reading the table directly.
 -- Assumes nothing.
-use mathlib.Core.Path.{◌≡◌, refl, sym, ◌∙◌}
+use Rattle.std.proofs.Common.{Ok}
+use mathlib.Core.Path.{◌≡◌, refl, sym, subst, ◌∙◌}
 use mathlib.Core.List.{List}
 use Prim.Native.Nat.{ℕ}
 use lib.IntN.{ℤ}
@@ -12,7 +13,6 @@ use Rattle.program.specs.Decode.{Decoded, refused, accepted}
 use Rattle.machine.specs.Rule.{fixed}
 use Rattle.engine.specs.declared.Clearances.{Clearances}
 use Rattle.engine.specs.declared.Ran.{Ran}
-use Rattle.engine.specs.declared.Answer.TheVariants as Answer
 use Rattle.engine.specs.Memory.{Memory, surroundings}
 use Rattle.engine.specs.Ended.{begin, engine_of, directly, SameEnd}
 use Rattle.engine.proofs.Accepted.{start-range, start-direct, same_end}
@@ -50,13 +50,17 @@ module _ (sheet bytes : List ℕ) (row : List ℤ) (size : length row ≡ 7) (c 
     where
       by : (t : Table) → read_table bytes ≡ table t → (r : Ran) (d : Decoded) → start_tagged sheet (read_table bytes) row c m handler fuel ≡ d
           → let x : Left = tagged_of d (read_table bytes) row c m handler fuel in
-          x.ended.answer ≡ Answer.Stopped r
+          x.ended.answer ≡ Ok r
           → (x.handler ≡ laid (kernel_words (translate t)) handler) × SameEnd x.ended (directly (evaluate t) sheet c m fuel)
       by t q r (refused p) is e = never (cc)
       by t q r (accepted cs) is e = rw q (refl, accepted-reads cs is t q)
 
+  -- so what is left keeps it
+  pub promised : (x : Left) → x ≡ tagged sheet bytes row c m handler fuel → Promises sheet bytes c m handler fuel x
+  promised x e = subst (Promises sheet bytes c m handler fuel) (sym e) tagged-promises
+
   -- what stopped was given a table
-  pub stopped-reads : (r : Ran) → (tagged sheet bytes row c m handler fuel).ended.answer ≡ Answer.Stopped r
+  pub stopped-reads : (r : Ran) → (tagged sheet bytes row c m handler fuel).ended.answer ≡ Ok r
       → (t : Table) × (read_table bytes ≡ table t)
       × SameEnd (tagged sheet bytes row c m handler fuel).ended (directly (evaluate t) sheet c m fuel)
   unfolding tagged
@@ -64,7 +68,7 @@ module _ (sheet bytes : List ℕ) (row : List ℤ) (size : length row ≡ 7) (c 
     where
       by : (d : Decoded) → start_tagged sheet (read_table bytes) row c m handler fuel ≡ d
           → let x : Left = tagged_of d (read_table bytes) row c m handler fuel in
-          x.ended.answer ≡ Answer.Stopped r
+          x.ended.answer ≡ Ok r
           → (t : Table) × (read_table bytes ≡ table t) × SameEnd x.ended (directly (evaluate t) sheet c m fuel)
       by (refused p) is e = never (cc)
       by (accepted cs) is e =

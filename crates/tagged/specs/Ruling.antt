@@ -1,11 +1,13 @@
 -- The tag engine's ruler on words, and a ruling as the code hands it back.
-use Rattle.std.specs.Prelude.{ℕ, Bool, true, false, List, ℤ, pos, negsuc, leb}
-use Rattle.machine.specs.Rule.{allowed_if}
+use Rattle.std.specs.Prelude.{ℕ, Bool, true, false, List, ℤ, pos, negsuc, leb, None, Option, Some}
+use Rattle.machine.specs.Rule.{Verdict, denied, allowed}
 use Rattle.engine.specs.Act.{Asked, WordRuler}
+use Rattle.tables.specs.declared.Allowed.{Allowed}
 use Rattle.handler.specs.Kernel.{Result}
-use Rattle.tagging.specs.Consult.{Tag, Five, words, matches, Consulted, ruled_if, consult, counted}
+use Rattle.tagging.specs.Consult.{Tag, tag, Five, words, Consulted, ruled_if, consult, counted}
 use Rattle.tagged.specs.declared.consult.Ruling.{Ruling}
 use Rattle.tagged.specs.declared.consult.Five as Code
+use Rattle.tagged.specs.declared.run.Kept.{Kept}
 
 -- the word of an input: its label where it is supplied, else −1
 abbrev pub input_word : (supplied : Bool) → ℕ → ℤ
@@ -29,19 +31,22 @@ tag_words handler u a =
 abbrev pub five_of : Code.Five → Five
 five_of f = words f.code f.pc f.input1 f.input2 f.input3
 
+abbrev pub tag_kept : Kept → Tag
+tag_kept k = tag k.cache.words k.faults k.kernel
+
+abbrev pub verdict_of : Option Allowed → Verdict
+verdict_of None = denied
+verdict_of (Some a) = allowed a.place.0 a.result.0
+
 abbrev pub ruling_of : Ruling → Consulted
 ruling_of r =
     record {
-      verdict = allowed_if r.allowed r.place.0 r.result.0;
-      row = r.cache.words;
-      faults = r.faults;
-      kernel_steps = r.steps;
+      verdict = verdict_of r.verdict;
+      row = r.kept.cache.words;
+      faults = r.kept.faults;
+      kernel_steps = r.kept.kernel;
     }
 
 -- the last two words are used, or nothing is allowed
 abbrev pub ruling : Bool → List ℤ → ℕ → ℕ → Consulted
 ruling b ws faults steps = record { verdict = ruled_if b ws; row = ws; faults = faults; kernel_steps = steps }
-
--- after the handler has returned
-abbrev pub ruled_again : Five → List ℤ → ℕ → Consulted
-ruled_again f ws steps = ruling (matches f ws) ws 1 steps

@@ -1,11 +1,10 @@
 -- The tag engine: what it answers and what every lent run and the rule memory hold at exit, for all arguments; and what it promises of
 -- the table that it is given.
-use Rattle.std.specs.Prelude.{ℕ, ◌≡◌, List, ℤ, length}
+use Rattle.std.specs.Prelude.{ℕ, ◌≡◌, List, ℤ, length, Ok}
 use Rattle.word.specs.Lay.{laid}
 use Rattle.program.specs.Decode.{Decoded, refused, accepted}
 use Rattle.engine.specs.declared.Clearances.{Clearances}
 use Rattle.engine.specs.declared.Ran.{Ran}
-use Rattle.engine.specs.declared.Answer.TheVariants as Answer
 use Rattle.engine.specs.Memory.{Memory}
 use Rattle.engine.specs.Start.{given, start_of}
 use Rattle.engine.specs.Ended.{Ended, ended, engine_of, directly, SameEnd}
@@ -57,5 +56,5 @@ tagged sheet bytes row c m handler fuel =
 -- and demand 2, answer and lent runs are those of reading the table directly
 abbrev pub Promises : List ℕ → List ℕ → Clearances → Memory → List ℤ → ℕ → Left → Type 0
 Promises sheet bytes c m handler fuel x =
-    Handles (read_table bytes) (λ t code. (r : Ran) → x.ended.answer ≡ Answer.Stopped r
+    Handles (read_table bytes) (λ t code. (r : Ran) → x.ended.answer ≡ Ok r
     → (x.handler ≡ laid (kernel_words code) handler) × SameEnd x.ended (directly (evaluate t) sheet c m fuel))

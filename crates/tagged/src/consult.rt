@@ -3,16 +3,18 @@ ghost use Rattle.std.specs.Prelude.{◌≡◌, true, false, pos, get_or, length}
 ghost use Rattle.handler.specs.Space.{handle_space};
 ghost use Rattle.word.specs.Number.{same_word};
 ghost use Rattle.tagging.specs.Consult.{matches, missed, consult};
-ghost use Rattle.tagged.specs.Ruling.{input_word, five_for, five_of, ruling_of, ruling, ruled_again};
+ghost use Rattle.tagged.specs.Ruling.{input_word, five_for, five_of, ruling_of, ruling};
 
+use crate::run::Kept;
 use kernel::{Outcome, handle};
 use label::Label;
 use policy::row::Cache;
 use step::find::Inputs;
+use tables::{Allowed, Verdict};
 
 // The five words that a command asks with: code, P, L1, L2, L3; missing inputs are -1.
 #[derive(Clone, Copy)]
-pub struct Five {
+pub(crate) struct Five {
     pub code: i64,
     pub pc: i64,
     pub input1: i64,
@@ -24,7 +26,7 @@ pub struct Five {
 fn input_word(supplied: bool, label: Label) -> i64
     ensures { result ≡ input_word supplied label.0 }
 {
-    if supplied { label.word() } else { -1 }
+    if supplied { i64::from(label) } else { -1 }
 }
 
 // Of a command with this code word at a place with this label.
@@ -34,23 +36,18 @@ pub(crate) fn five_words(code: i64, pc: Label, found: Inputs) -> Five
     let count = found.count;
     Five {
         code,
-        pc: pc.word(),
+        pc: i64::from(pc),
         input1: input_word(1 <= count, found.input1),
         input2: input_word(2 <= count, found.input2),
         input3: input_word(3 <= count, found.input3),
     }
 }
 
-// How a command was ruled on: whether it is allowed, the new place label and the result label; the rule memory; a fault or none, and
-// the kernel steps.
-#[derive(Drop)]
-pub struct Ruling {
-    pub allowed: bool,
-    pub place: Label,
-    pub result: Label,
-    pub cache: Cache,
-    pub faults: u64,
-    pub steps: u64,
+// How a command was ruled on: what the rules say; the rule memory; a fault or none, and the kernel steps.
+#[derive(Clone, Copy)]
+pub(crate) struct Ruling {
+    pub verdict: Verdict,
+    pub kept: Kept,
 }
 
 // Is the word at an index this one?
@@ -61,19 +58,15 @@ fn holds(cache: Cache, i: usize, word: i64) -> bool
 }
 
 // Do the first five words match the command about to run?
+#[tactic(auto, unfolding(tagging::specs::Consult::matches))]
 fn matching(cache: Cache, five: Five) -> bool
     ensures { result ≡ matches (five_of five) cache.words }
 {
-    if holds(cache, 0, five.code) {
-        if holds(cache, 1, five.pc) {
-            if holds(cache, 2, five.input1) {
-                if holds(cache, 3, five.input2) {
-                    return holds(cache, 4, five.input3);
-                }
-            }
-        }
-    }
-    false
+    holds(cache, 0, five.code)
+        && holds(cache, 1, five.pc)
+        && holds(cache, 2, five.input1)
+        && holds(cache, 3, five.input2)
+        && holds(cache, 4, five.input3)
 }
 
 // The five words are written, and the last two become -1.
@@ -91,45 +84,39 @@ fn miss(cache: Cache, five: Five) -> Cache
 }
 
 // The last two words are used.
-fn hit(cache: Cache, faults: u64, steps: u64) -> Ruling
-    ensures { ruling_of result ≡ ruling true cache.words faults steps }
+fn hit(cache: Cache, faults: u64, kernel: u64) -> Ruling
+    ensures { ruling_of result ≡ ruling true cache.words faults kernel }
 {
-    let place = Label::low(cache.get(5));
-    let result = Label::low(cache.get(6));
+    let allowed = Allowed {
+        place: Label::low(cache.get(5)),
+        result: Label::low(cache.get(6)),
+    };
     Ruling {
-        allowed: true,
-        place,
-        result,
-        cache,
-        faults,
-        steps,
+        verdict: Some(allowed),
+        kept: Kept {
+            cache,
+            faults,
+            kernel,
+        },
     }
 }
 
-fn deny(cache: Cache, steps: u64) -> Ruling
-    ensures { ruling_of result ≡ ruling false cache.words 1 steps }
+fn deny(cache: Cache, kernel: u64) -> Ruling
+    ensures { ruling_of result ≡ ruling false cache.words 1 kernel }
 {
     Ruling {
-        allowed: false,
-        place: Label::EMPTY,
-        result: Label::EMPTY,
-        cache,
-        faults: 1,
-        steps,
+        verdict: None,
+        kept: Kept {
+            cache,
+            faults: 1,
+            kernel,
+        },
     }
 }
 
-// The handler has returned: the command starts again.
-fn again(cache: Cache, steps: u64, five: Five) -> Ruling
-    ensures { ruling_of result ≡ ruled_again (five_of five) cache.words steps }
-{
-    if matching(cache, five) {
-        return hit(cache, 1, steps);
-    }
-    deny(cache, steps)
-}
-
-// Where the five words match, the last two are used; otherwise the handler of `count` instructions in `space` runs.
+// Where the five words match, the last two are used; otherwise the handler of `count` instructions in `space` runs, and where it has
+// returned, the command starts again.
+#[tactic(auto, unfolding(tagging::specs::Consult::consult))]
 pub(crate) fn consult(space: &[i64], count: usize, five: Five, cache: Cache) -> Ruling
     ensures { ruling_of result ≡ consult (handle_space space.now count) (five_of five) cache.words }
 {
@@ -137,12 +124,9 @@ pub(crate) fn consult(space: &[i64], count: usize, five: Five, cache: Cache) -> 
         return hit(cache, 0, 0);
     }
     let handled = handle(space, count, miss(cache, five));
-    let row = handled.cache;
-    let steps = handled.steps;
-    let outcome = handled.outcome;
-    match outcome {
-        Outcome::Returned => again(row, steps, five),
-        Outcome::Denied => deny(row, steps),
-        Outcome::Failed => deny(row, steps),
+    if handled.outcome == Outcome::Returned && matching(handled.cache, five) {
+        hit(handled.cache, 1, handled.steps)
+    } else {
+        deny(handled.cache, handled.steps)
     }
 }

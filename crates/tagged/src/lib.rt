@@ -12,14 +12,15 @@ ghost use Rattle.engine.specs.Memory.{output, memory};
 ghost use Rattle.tagged.specs.Tagged.{left, ended_by, tagged, Promises};
 
 use engine::start::Given;
-use engine::{Answer, Clearances};
+use engine::{Clearances, Ran, Space, Surroundings};
 use policy::row::Cache;
-use program::Checked;
+use program::Refusal;
+use step::cell::CellRuns;
 
 // The answer, the rule memory at the end, the commands that did not match and the kernel steps.
-#[derive(Drop)]
+#[derive(Clone, Copy, PartialEq, Eq, Debug)]
 pub struct Tagged {
-    pub answer: Answer,
+    pub answer: Result<Ran, Refusal>,
     pub cache: Cache,
     pub faults: u64,
     pub kernel: u64,
@@ -27,7 +28,7 @@ pub struct Tagged {
 
 // Checks everything, and then runs the sheet on the lent cells to one named stop, under the rules of the table. A refusal, of 1 to 9, 12 or
 // 13 with its place, leaves every lent run and the rule memory as they came. The run is that of reading the table directly, by a handler
-// that never fails.
+// that never fails. The runs stand each by itself, as C lends them.
 pub fn execute(
     sheet: &[u8],
     values: &mut [i64],
@@ -62,51 +63,50 @@ pub fn execute(
         handler.new) }
 {
     let rules = start::rules(table, cache, handler.len());
-    let size = rules.size;
     let given = Given {
         values: values.len(),
         program: program.len(),
         stack: stack.len(),
         fuel,
     };
-    let checked = engine::start::check(sheet, labels, clearances, given, rules.own);
-    match checked {
-        Checked::Refused(r) => Tagged {
-            answer: Answer::Refused(r),
+    let count = match engine::start::check(sheet, labels, clearances, given, rules.own) {
+        Ok(count) => count,
+        Err(r) => return Tagged {
+            answer: Err(r),
             cache,
             faults: 0,
             kernel: 0,
         },
-        Checked::Accepted(count) => {
-            program::write(sheet, program);
-            translator::write(table, handler);
-            let room = engine::room(numbers.len(), line_labels.len(), kinds.len(), pages.len());
-            let words = clearances.words;
-            let end = run::go(
-                count,
-                room,
-                &words,
-                fuel,
-                program,
-                handler,
-                size,
-                cache,
-                stack,
-                values,
-                labels,
-                numbers,
-                line_labels,
-                kinds,
-                pages,
-            );
-            let ran = end.ran;
-            let row = end.cache;
-            Tagged {
-                answer: Answer::Stopped(ran),
-                cache: row,
-                faults: end.faults,
-                kernel: end.kernel,
-            }
-        }
+    };
+    program::write(sheet, program);
+    translator::write(table, handler);
+    let surroundings = Surroundings {
+        room: engine::room(numbers.len(), line_labels.len(), kinds.len(), pages.len()),
+        clearances: &clearances.words,
+    };
+    let mut cells = CellRuns { values, labels };
+    let mut space = Space {
+        numbers,
+        labels: line_labels,
+        kinds,
+        pages,
+    };
+    let end = run::go(
+        count,
+        surroundings,
+        fuel,
+        program,
+        handler,
+        rules.size,
+        cache,
+        stack,
+        &mut cells,
+        &mut space,
+    );
+    Tagged {
+        answer: Ok(end.ran),
+        cache: end.kept.cache,
+        faults: end.kept.faults,
+        kernel: end.kept.kernel,
     }
 }

@@ -3,12 +3,11 @@ ghost use Rattle.std.specs.Prelude.{◌≡◌};
 ghost use Rattle.policy.specs.Read.{read_table};
 ghost use Rattle.tagged.specs.Start.{found_of};
 
-use engine::start::{Limit, Own, kept_if};
+use engine::start::{Own, kept_if};
 use policy::row::Cache;
-use tables::Checked;
 
 // What is found of the rules before a run: the limits that they keep or break, and the length of their handler, in commands.
-#[derive(Drop)]
+#[derive(Clone, Copy)]
 pub(crate) struct Found {
     pub own: Own,
     pub size: usize,
@@ -20,25 +19,16 @@ pub(crate) fn rules(table: &[u8], cache: Cache, words: usize) -> Found
     ensures { result ≡ found_of (read_table table.now) cache.words words }
 {
     let seen = tables::row::inspect(table, cache);
-    let checked = seen.table;
     let row = kept_if(seen.row, 7, 0);
-    let mut rules = Limit::Kept;
-    let mut size: usize = 0;
-    match checked {
-        Checked::Accepted => {
-            size = translator::instructions(table);
-        }
-        Checked::Refused(r) => {
-            rules = Limit::Broken(r);
-        }
-    }
-    let handler = kept_if(size <= words / 2, 8, 3);
-    Found {
-        own: Own {
-            rules,
-            row,
-            handler,
-        },
-        size,
-    }
+    let size = if seen.table.is_ok() {
+        translator::instructions(table)
+    } else {
+        0
+    };
+    let own = Own {
+        rules: seen.table,
+        row,
+        handler: kept_if(size <= words / 2, 8, 3),
+    };
+    Found { own, size }
 }

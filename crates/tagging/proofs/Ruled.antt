@@ -1,9 +1,9 @@
 -- The labels that a rule table gives are in range where those are that it is asked with, and those that the rule memory and the handler
 -- give always are, whatever the words are.
 -- Assumes nothing.
+use Rattle.std.proofs.Common.{None, Option, Some}
 use mathlib.Core.Bool.{Bool, true, false}
 use mathlib.Core.List.{List}
-use mathlib.Core.Option.{Option, none, some}
 use native.Mathlib.Nat.{mod-lt}
 use native.Mathlib.Omega.{arith}
 use lib.IntN.{ℤ}
@@ -41,8 +41,8 @@ module _ (k : Key) (h : KeyHas InRange k) where
   label-range (join a b) = join-range (eval_label k a) (eval_label k b)
 
   rule-range : (x : Option Rule) → Ranged (eval_rule x k)
-  rule-range none = tt
-  rule-range (some a) = by-test (eval_condition k a.allowed)
+  rule-range None = tt
+  rule-range (Some a) = by-test (eval_condition k a.allowed)
     where
       by-test : (b : Bool) → Ranged (allowed_if b (eval_label k a.pc) (eval_label k a.result))
       by-test true = (label-range a.pc, label-range a.result)

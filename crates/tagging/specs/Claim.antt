@@ -4,7 +4,8 @@
 use Rattle.std.specs.Prelude.{ℕ, ◌+◌, ◌*◌, ◌≤◌, ◌≡◌, Bool, true, false, List, ℤ, length}
 use Rattle.program.specs.declared.Command.{Command}
 use Rattle.machine.specs.Rule.{Key, denied, Policy, fixed}
-use Rattle.machine.specs.State.{State, Stop}
+use Rattle.machine.specs.State.{State}
+use Rattle.machine.specs.declared.Stop.{Stop}
 use Rattle.machine.specs.Environment.{Environment}
 use Rattle.machine.specs.Step.{Request, halt, ask, request, key_of}
 use Rattle.machine.specs.Run.{Result, run, Same}

@@ -1,7 +1,7 @@
 -- A handler stored in parts, the rules' bodies before the slots that branch to them, is the handler stored whole.
 -- Assumes nothing.
+use Rattle.std.proofs.Common.{None, Some}
 use mathlib.Core.Path.{◌≡◌, refl, sym, ap, ap₂, ◌∙◌}
-use mathlib.Core.Bool.{Bool}
 use mathlib.Core.List.{List, [], ◌∷◌, ◌++◌, append_assoc, append-nil}
 use Prim.Native.Nat.{ℕ, zero, suc, ◌+◌, ◌-◌, ◌*◌, ◌^◌, ◌<◌, ◌≤◌}
 use native.Mathlib.Nat.{add-zero}
@@ -12,8 +12,7 @@ use lib.ListN.{length, get_or, take, drop, set, length-append, length-set, drop_
 use lib.Seq.{append_snoc, take-suc-set, take_all}
 use Rattle.translator.specs.declared.Mark.{Mark}
 use Rattle.word.proofs.Bool.{never}
-use Rattle.program.specs.declared.Operand.{Operand}
-use Rattle.program.specs.declared.Shape.TheVariants as Shape
+use Rattle.program.specs.declared.Shape.{Shape}
 use Rattle.program.specs.Fetch.{shape_of}
 use Rattle.program.specs.Command.{Opcode, opcodes, opcode_of, rule_number}
 use Rattle.tables.proofs.TableReading.{Element, element}
@@ -184,15 +183,15 @@ module _ (begun : List ℕ) (space : List ℤ) where
       abbrev e : Element opcodes i
       e = element opcodes i h
 
-      pub slotting-known : shape_of (opcode_of (i + 1)) ≡ Shape.Unknown → ⊥
+      pub slotting-known : shape_of (opcode_of (i + 1)) ≡ None → ⊥
       slotting-known f = let d = rw (opcodes-next i e.here e.at) at f in never (cc)
 
-      pub slotting-next : {w : Operand} {k : ℕ} {has : Bool} {n : ℕ} → shape_of (opcode_of (i + 1)) ≡ Shape.Of w k has n → (s2 : List ℤ)
-          → s2 ≡ put_code (first_slot + i) (Bnz (pos (get_or begun n 0 - (first_slot + i))) ∷ []) now → length s2 ≡ length now
+      pub slotting-next : (x : Shape) → shape_of (opcode_of (i + 1)) ≡ Some x → (s2 : List ℤ)
+          → s2 ≡ put_code (first_slot + i) (Bnz (pos (get_or begun x.rule 0 - (first_slot + i))) ∷ []) now → length s2 ≡ length now
           → Slotting begun space (i + 1) s2
       unfolding slots_to
-      slotting-next {n} f s2 d l =
-          let own : n ≡ rule_number e.here = (let g = rw (opcodes-next i e.here e.at) at f in cc) in
+      slotting-next x f s2 d l =
+          let own : x.rule ≡ rule_number e.here = (let g = rw (opcodes-next i e.here e.at) at f in cc) in
           let place = first_slot + i in
           let first = Bnz (pos (get_or begun (rule_number e.here) 0 - place)) ∷ [] in
           let more = slots_to (place + 1) begun (drop (i + 1) opcodes) in

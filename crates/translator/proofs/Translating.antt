@@ -1,19 +1,18 @@
 -- The pieces that the code reads from a table's bytes are the table's translation.
 -- Assumes nothing.
+use Rattle.std.proofs.Common.{Err, Ok, None, Option, Some, slice_get}
 use mathlib.Core.Path.{◌≡◌, refl, sym, ap, subst, ◌∙◌}
 use mathlib.Core.Bool.{Bool, true, false}
 use mathlib.Core.List.{List, [], ◌∷◌, map}
-use mathlib.Core.Option.{Option, none, some}
 use Prim.Native.Nat.{ℕ, zero, suc, ◌+◌, ◌*◌, ◌≤◌}
 use native.Mathlib.Omega.{arith}
 use lib.IntN.{ℤ}
 use lib.Dec.{leb, ltb, eqb}
-use lib.ListN.{length, get_elem?}
+use lib.ListN.{length}
 use borrow.Author.Tests.{eqb-true}
 use Rattle.word.specs.Lay.{laid}
 use Rattle.program.specs.Command.{Opcode, ruled, supplies, has_result}
 use Rattle.program.specs.declared.Refusal.{Refusal}
-use Rattle.tables.specs.declared.Checked.TheVariants as Checked
 use Rattle.policy.specs.declared.Token.{Token}
 use Rattle.policy.specs.Expression.{LabelExpr, empty, input1, input2, input3, join, Condition, flows, always, both, either, Rule, Table}
 use Rattle.policy.specs.Token.{token_of, token_at}
@@ -117,10 +116,10 @@ module _ (n : ℕ) (s : List ℕ) where
       (condition-is d)
 
   -- the byte 10 is a label expression too
-  empty-is : (o : Option ℕ) (at : ℕ) → get_elem? s at ≡ o → Is compile_label (empty_byte o at) (label_code depth_limit s at)
+  empty-is : (o : Option ℕ) (at : ℕ) → slice_get s at ≡ o → Is compile_label (empty_byte o at) (label_code depth_limit s at)
   unfolding label_code token_at token_of
-  empty-is none at e = tt
-  empty-is (some b) at e = by (eqb b 0x10) refl
+  empty-is None at e = tt
+  empty-is (Some b) at e = by (eqb b 0x10) refl
     where
       by : (x : Bool) → eqb b 0x10 ≡ x → Is compile_label (read_if x empty at) (label_code depth_limit s at)
       by true d = rw (e, eqb-true b 0x10 d)
@@ -128,7 +127,7 @@ module _ (n : ℕ) (s : List ℕ) where
 
   result-is : (has : Bool) (at : ℕ) → Is compile_label (result_if has n s at) (label_code depth_limit s at)
   result-is true at = label_is depth_limit at
-  result-is false at = empty-is (get_elem? s at) at refl
+  result-is false at = empty-is (slice_get s at) at refl
 
   -- ════════════════════════════════════════════════════════════════════════════════════════════
   -- A rule
@@ -263,14 +262,14 @@ written-table s t space e h = ap (λ code. put_code 0 code space) (read-code s t
 -- ════════════════════════════════════════════════════════════════════════════════════════════
 
 -- what is stored of an accepted table's bytes is its handler; others have none
-pub accepted-handler : (s : List ℕ) → check_answer (read_table s) ≡ Checked.Accepted → table_code s ≡ handler_of (read_table s)
+pub accepted-handler : (s : List ℕ) → check_answer (read_table s) ≡ Ok tt → table_code s ≡ handler_of (read_table s)
 accepted-handler s e = by-table (read_table s) (table-translates s) e
   where
-    by-table : (x : ReadTable) → Translates x (table_code s) → check_answer x ≡ Checked.Accepted → table_code s ≡ handler_of x
+    by-table : (x : ReadTable) → Translates x (table_code s) → check_answer x ≡ Ok tt → table_code s ≡ handler_of x
     by-table (refused q) h e = absurd (let z : ◌≡◌ {A = ℕ} 0 1 = cc in omega arith)
     by-table (table t) h e = h
 
-pub refused-handler : (x : ReadTable) (r : Refusal) → check_answer x ≡ Checked.Refused r → handler_of x ≡ []
+pub refused-handler : (x : ReadTable) (r : Refusal) → check_answer x ≡ Err r → handler_of x ≡ []
 refused-handler (refused q) r e = refl
 refused-handler (table t) r e = absurd (let z : ◌≡◌ {A = ℕ} 0 1 = cc in omega arith)
 

@@ -1,6 +1,6 @@
 -- What the translator in code reads and stores. It checks a table's bytes first and then reads them without a fault, so that these
 -- definitions have no side condition; proofs/Translating.antt shows that of a table's bytes they give its translation.
-use Rattle.std.specs.Prelude.{ℕ, zero, suc, ◌+◌, ◌-◌, ◌*◌, ◌^◌, ◌<◌, ◌≤◌, ◌≡◌, List, [], ◌∷◌, ◌++◌, ℤ, pos, negsuc, length, set, get_or}
+use Rattle.std.specs.Prelude.{ℕ, None, Option, Some, zero, suc, ◌+◌, ◌-◌, ◌*◌, ◌^◌, ◌<◌, ◌≤◌, ◌≡◌, List, [], ◌∷◌, ◌++◌, ℤ, pos, negsuc, length, set, get_or}
 use Rattle.program.specs.Command.{Opcode, opcodes, rule_number}
 use Rattle.policy.specs.declared.Token.{Token}
 use Rattle.tables.specs.declared.expression.Test.{Test}
@@ -26,18 +26,14 @@ abbrev pub piece : List Instruction → ℕ → Piece
 piece code next = record { code = code; next = next }
 
 -- what a byte stands for where a label expression is to stand: the row's words are code, P, L1, L2, L3
-abbrev pub part_of : Token → Part
-part_of Token.Empty = Part.Empty
-part_of Token.Place = Part.Word 1
-part_of Token.Input1 = Part.Word 2
-part_of Token.Input2 = Part.Word 3
-part_of Token.Input3 = Part.Word 4
-part_of Token.Join = Part.Join
-part_of Token.Flows = Part.Nothing
-part_of Token.True = Part.Nothing
-part_of Token.And = Part.Nothing
-part_of Token.Or = Part.Nothing
-part_of Token.Nothing = Part.Nothing
+abbrev pub part_of : Token → Option Part
+part_of Token.Empty = Some Part.Empty
+part_of Token.Place = Some (Part.Word 1)
+part_of Token.Input1 = Some (Part.Word 2)
+part_of Token.Input2 = Some (Part.Word 3)
+part_of Token.Input3 = Some (Part.Word 4)
+part_of Token.Join = Some Part.Join
+part_of _ = None
 
 -- of two pieces, one after the other in the bytes
 abbrev pub join_code : List Instruction → List Instruction → List Instruction
@@ -52,23 +48,23 @@ either_code a b = a ++ Bnz (pos 4) ∷ Push (pos 0) ∷ Push (pos 1) ∷ Bnz (po
 abbrev pub two_pieces : (List Instruction → List Instruction → List Instruction) → (ℕ → Piece) → ℕ → Piece
 two_pieces make inner at = let a = inner at in let b = inner a.next in piece (make a.code b.code) b.next
 
-abbrev pub label_piece : Part → ℕ → (ℕ → Piece) → Piece
-label_piece Part.Empty at inner = piece (Push (pos 0) ∷ []) (at + 1)
-label_piece (Part.Word address) at inner = piece (Push (pos address) ∷ Load ∷ []) (at + 1)
-label_piece Part.Join at inner = two_pieces join_code inner (at + 1)
-label_piece Part.Nothing at inner = piece [] at
+abbrev pub label_piece : Option Part → ℕ → (ℕ → Piece) → Piece
+label_piece (Some Part.Empty) at inner = piece (Push (pos 0) ∷ []) (at + 1)
+label_piece (Some (Part.Word address)) at inner = piece (Push (pos address) ∷ Load ∷ []) (at + 1)
+label_piece (Some Part.Join) at inner = two_pieces join_code inner (at + 1)
+label_piece None at inner = piece [] at
 
 -- the label expression at an offset, at most so deep
 unfoldable pub label_code : (depth : ℕ) → List ℕ → (at : ℕ) → Piece
 label_code zero bytes at = piece [] at
 label_code (suc depth) bytes at = label_piece (part_of (token_at bytes at)) at (label_code depth bytes)
 
-abbrev pub condition_piece : Test → ℕ → (label inner : ℕ → Piece) → Piece
-condition_piece Test.True at label inner = piece (Push (pos 0) ∷ []) (at + 1)
-condition_piece Test.Flows at label inner = two_pieces flows_code label (at + 1)
-condition_piece Test.And at label inner = two_pieces join_code inner (at + 1)
-condition_piece Test.Or at label inner = two_pieces either_code inner (at + 1)
-condition_piece Test.Nothing at label inner = piece [] at
+abbrev pub condition_piece : Option Test → ℕ → (label inner : ℕ → Piece) → Piece
+condition_piece (Some Test.True) at label inner = piece (Push (pos 0) ∷ []) (at + 1)
+condition_piece (Some Test.Flows) at label inner = two_pieces flows_code label (at + 1)
+condition_piece (Some Test.And) at label inner = two_pieces join_code inner (at + 1)
+condition_piece (Some Test.Or) at label inner = two_pieces either_code inner (at + 1)
+condition_piece None at label inner = piece [] at
 
 -- the yes/no expression at an offset
 unfoldable pub condition_code : (depth : ℕ) → List ℕ → (at : ℕ) → Piece
@@ -92,12 +88,12 @@ guarded_code bytes at =
     piece (guarded_of c.code a.code) a.next
 
 -- a rule by its first byte
-abbrev pub rule_piece : Test → List ℕ → (at : ℕ) → Piece
-rule_piece Test.True bytes at = answer_code bytes (at + 1)
-rule_piece Test.Flows bytes at = guarded_code bytes at
-rule_piece Test.And bytes at = guarded_code bytes at
-rule_piece Test.Or bytes at = guarded_code bytes at
-rule_piece Test.Nothing bytes at = piece [] at
+abbrev pub rule_piece : Option Test → List ℕ → (at : ℕ) → Piece
+rule_piece (Some Test.True) bytes at = answer_code bytes (at + 1)
+rule_piece (Some Test.Flows) bytes at = guarded_code bytes at
+rule_piece (Some Test.And) bytes at = guarded_code bytes at
+rule_piece (Some Test.Or) bytes at = guarded_code bytes at
+rule_piece None bytes at = piece [] at
 
 unfoldable pub rule_code : List ℕ → (at : ℕ) → Piece
 rule_code bytes at = rule_piece (test_of (token_at bytes at)) bytes at

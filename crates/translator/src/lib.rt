@@ -2,25 +2,27 @@
 // code stores.
 #![tactic(auto)]
 
-ghost use Rattle.std.specs.Prelude.{◌≡◌, ◌+◌, ◌*◌, ◌≤◌, ◌^◌, length};
+ghost use Rattle.std.specs.Prelude.{◌≡◌, ◌+◌, ◌*◌, ◌≤◌, ◌^◌, ◌/◌, length};
 ghost use Rattle.program.specs.Command.{opcodes};
 ghost use Rattle.policy.specs.Read.{read_table};
+ghost use Rattle.policy.specs.Token.{token_at};
+ghost use Rattle.tables.specs.Value.{at_offset};
 ghost use Rattle.word.specs.Lay.{laid};
 ghost use Rattle.handler.specs.Space.{kernel_words};
 ghost use Rattle.handler.specs.Translate.{handler_of};
 ghost use Rattle.handler.specs.Claim.{Handles};
-ghost use Rattle.translator.specs.Emit.{part_of, two_pieces, join_code, flows_code, either_code, label_code, condition_code};
+ghost use Rattle.translator.specs.Emit.{part_of, two_pieces, flows_code, label_code, condition_code};
 ghost use Rattle.translator.specs.Emit.{answer_code, guarded_code, rule_code, table_code, put_all, put_code, Emitted};
 ghost use Rattle.translator.specs.Emit.{first_slot, slots_to, Ahead};
 
 use handler::code;
-use policy::{Token, token_of};
-use program::{Shape, shape_of};
-use tables::expression::{Test, test_of};
-use tables::{Checked, check_table};
-use word::memory::{at, put};
+use policy::Token;
+use program::shape_of;
+use tables::expression::{Read, Test, test_at, token_at};
+use tables::{DEPTH_LIMIT, check_table};
+use word::memory::put;
 
-// The codes of the kernel's instructions, as words of the handler space.
+// The codes of the kernel's instructions, as words of the handler space: numbers, as they are what is stored there.
 const ADD: i64 = code::ADD as i64;
 
 const SUB: i64 = code::SUB as i64;
@@ -49,49 +51,73 @@ const FIRST: usize = 6 + CODES;
 const RULES: usize = policy::RULES as usize;
 
 // Where a translation stands: the offset of the next byte, and the place of the next instruction.
-#[derive(Drop)]
+#[derive(Clone, Copy)]
 struct Mark {
     next: usize,
     position: usize,
 }
 
-// A byte where a label expression is to stand: the empty label, a word of the row, a join of two, or no label expression.
-#[derive(Drop)]
+impl Mark {
+    // Behind so many instructions.
+    fn after(self, count: usize) -> Mark
+        requires { (self.position ≤ 2 ^ 20) × (count ≤ 2 ^ 10) }
+        ensures { result ≡ record self { position = self.position + count } }
+    {
+        Mark {
+            position: self.position + count,
+            ..self
+        }
+    }
+}
+
+// What a byte starts where a label expression is to stand: the empty label, a word of the row, or a join of two.
+#[derive(Clone, Copy)]
 enum Part {
     Empty,
     Word(usize),
     Join,
-    Nothing,
 }
 
-fn part_of(token: Token) -> Part
+fn part_of(token: Token) -> Option<Part>
     ensures { result ≡ part_of token }
 {
     match token {
-        Token::Empty => Part::Empty,
-        Token::Place => Part::Word(1),
-        Token::Input1 => Part::Word(2),
-        Token::Input2 => Part::Word(3),
-        Token::Input3 => Part::Word(4),
-        Token::Join => Part::Join,
-        Token::Flows => Part::Nothing,
-        Token::True => Part::Nothing,
-        Token::And => Part::Nothing,
-        Token::Or => Part::Nothing,
-        Token::Nothing => Part::Nothing,
+        Token::Empty => Some(Part::Empty),
+        Token::Place => Some(Part::Word(1)),
+        Token::Input1 => Some(Part::Word(2)),
+        Token::Input2 => Some(Part::Word(3)),
+        Token::Input3 => Some(Part::Word(4)),
+        Token::Join => Some(Part::Join),
+        _ => None,
     }
 }
 
+// What starts a label expression at an offset, and the offset after it.
+fn part_at(bytes: &[u8], at: usize) -> Read<Part>
+    ensures { result ≡ at_offset (part_of (token_at bytes.now at)) at }
+{
+    let part = part_of(token_at(bytes, at)).ok_or(at)?;
+    Ok((part, at + 1))
+}
+
 // Instructions from a place on: for each its code, and its operand or 0.
-fn emit(space: &mut [i64], position: usize, words: &[i64])
+fn store(space: &mut [i64], position: usize, words: &[i64])
     requires { (position ≤ 2 ^ 20) × (length words.now ≤ 2 ^ 10) }
     ensures { space.new ≡ put_all (2 * position) words.now space.old }
 {
-    let mut i: usize = 0;
-    while i < words.len() {
-        put(space, 2 * position + i, at(words, i));
-        i += 1;
+    for (i, &word) in words.iter().enumerate() {
+        put(space, 2 * position + i, word);
     }
+}
+
+// Instructions from a mark on, and the mark behind them.
+fn emit(space: &mut [i64], mark: Mark, words: &[i64]) -> Mark
+    requires { (mark.position ≤ 2 ^ 20) × (length words.now ≤ 2 ^ 10) }
+    ensures behind { result ≡ record mark { position = mark.position + length words.now / 2 } }
+    ensures stored { space.new ≡ put_all (2 * mark.position) words.now space.old }
+{
+    store(space, mark.position, words);
+    mark.after(words.len() / 2)
 }
 
 // ════════════════════════════════════════════════════════════════════════════════════════════
@@ -105,24 +131,19 @@ fn skip_label(bytes: &[u8], at: usize, depth: usize) -> usize
     if depth == 0 {
         return at;
     }
-    if bytes.len() <= at {
+    let Ok((part, next)) = part_at(bytes, at) else {
         return at;
-    }
-    let next = at + 1;
-    let part = part_of(token_of(bytes[at]));
+    };
     match part {
-        Part::Empty => next,
-        Part::Word(_) => next,
+        Part::Empty | Part::Word(_) => next,
         Part::Join => {
             let second = skip_label(bytes, next, depth - 1);
             skip_label(bytes, second, depth - 1)
         }
-        Part::Nothing => at,
     }
 }
 
 // A label on the stack.
-#[cycle(emit_join_emit_label)]
 fn emit_label(bytes: &[u8], mark: Mark, depth: usize, space: &mut [i64]) -> Mark
     requires { mark.position + 3 * 2 ^ depth ≤ 2 ^ 20 }
     ensures { Emitted (label_code depth bytes.now) mark space.old result space.new }
@@ -130,49 +151,18 @@ fn emit_label(bytes: &[u8], mark: Mark, depth: usize, space: &mut [i64]) -> Mark
     if depth == 0 {
         return mark;
     }
-    let at = mark.next;
-    if bytes.len() <= at {
+    let Ok((part, next)) = part_at(bytes, mark.next) else {
         return mark;
-    }
-    let position = mark.position;
-    let next = at + 1;
-    let part = part_of(token_of(bytes[at]));
+    };
+    let inner = Mark { next, ..mark };
     match part {
-        Part::Empty => {
-            let zero = [PUSH, 0];
-            emit(space, position, &zero);
-            Mark {
-                next,
-                position: position + 1,
-            }
+        Part::Empty => emit(space, inner, &[PUSH, 0]),
+        Part::Word(address) => emit(space, inner, &[PUSH, address as i64, LOAD, 0]),
+        Part::Join => {
+            let first = emit_label(bytes, inner, depth - 1, space);
+            let second = emit_label(bytes, first, depth - 1, space);
+            emit(space, second, &[OR, 0])
         }
-        Part::Word(address) => {
-            let read = [PUSH, address as i64, LOAD, 0];
-            emit(space, position, &read);
-            Mark {
-                next,
-                position: position + 2,
-            }
-        }
-        Part::Join => emit_join(bytes, Mark { next, position }, depth - 1, space),
-        Part::Nothing => mark,
-    }
-}
-
-// The join of two labels.
-#[cycle(emit_join_emit_label)]
-fn emit_join(bytes: &[u8], mark: Mark, depth: usize, space: &mut [i64]) -> Mark
-    requires { mark.position + 6 * 2 ^ depth ≤ 2 ^ 20 }
-    ensures { Emitted (two_pieces join_code (label_code depth bytes.now)) mark space.old result space.new }
-{
-    let first = emit_label(bytes, mark, depth, space);
-    let second = emit_label(bytes, first, depth, space);
-    let position = second.position;
-    let or = [OR, 0];
-    emit(space, position, &or);
-    Mark {
-        next: second.next,
-        position: position + 1,
     }
 }
 
@@ -182,34 +172,26 @@ fn emit_flows(bytes: &[u8], mark: Mark, depth: usize, space: &mut [i64]) -> Mark
     ensures { Emitted (two_pieces flows_code (label_code depth bytes.now))
         mark space.old result space.new }
 {
-    let start = mark.next;
-    let after = skip_label(bytes, start, depth);
     let second = Mark {
-        next: after,
-        position: mark.position,
+        next: skip_label(bytes, mark.next, depth),
+        ..mark
     };
     let target = emit_label(bytes, second, depth, space);
-    let place = target.position;
-    let dup = [DUP, 0];
-    emit(space, place, &dup);
-    let behind = place + 1;
+    let behind = emit(space, target, &[DUP, 0]);
     let first = Mark {
-        next: start,
-        position: behind,
+        next: mark.next,
+        ..behind
     };
     let source = emit_label(bytes, first, depth, space);
-    let position = source.position;
-    let less = [OR, 0, SUB, 0];
-    emit(space, position, &less);
-    let end = position + 2;
+    let end = emit(space, source, &[OR, 0, SUB, 0]);
     Mark {
         next: target.next,
-        position: end,
+        ..end
     }
 }
 
-// A number on the stack that is 0 where a yes/no expression holds.
-#[cycle(emit_both_emit_condition_emit_either)]
+// A number on the stack that is 0 where a yes/no expression holds. Both hold where the two numbers have no bit; where the first of either
+// holds 0 stays, and the second is passed over: the branch over it is stored when its length is known.
 fn emit_condition(bytes: &[u8], mark: Mark, depth: usize, space: &mut [i64]) -> Mark
     requires { mark.position + 8 * 2 ^ depth ≤ 2 ^ 20 }
     ensures { Emitted (condition_code depth bytes.now) mark space.old result space.new }
@@ -217,65 +199,26 @@ fn emit_condition(bytes: &[u8], mark: Mark, depth: usize, space: &mut [i64]) -> 
     if depth == 0 {
         return mark;
     }
-    let at = mark.next;
-    if bytes.len() <= at {
+    let Ok((test, next)) = test_at(bytes, mark.next) else {
         return mark;
-    }
-    let position = mark.position;
-    let next = at + 1;
-    let test = test_of(token_of(bytes[at]));
-    match test {
-        Test::True => {
-            let zero = [PUSH, 0];
-            emit(space, position, &zero);
-            Mark {
-                next,
-                position: position + 1,
-            }
-        }
-        Test::Flows => emit_flows(bytes, Mark { next, position }, depth - 1, space),
-        Test::And => emit_both(bytes, Mark { next, position }, depth - 1, space),
-        Test::Or => emit_either(bytes, Mark { next, position }, depth - 1, space),
-        Test::Nothing => mark,
-    }
-}
-
-// Both hold where the two numbers have no bit.
-#[cycle(emit_both_emit_condition_emit_either)]
-fn emit_both(bytes: &[u8], mark: Mark, depth: usize, space: &mut [i64]) -> Mark
-    requires { mark.position + 16 * 2 ^ depth ≤ 2 ^ 20 }
-    ensures { Emitted (two_pieces join_code (condition_code depth bytes.now))
-        mark space.old result space.new }
-{
-    let first = emit_condition(bytes, mark, depth, space);
-    let second = emit_condition(bytes, first, depth, space);
-    let position = second.position;
-    let bits = [OR, 0];
-    emit(space, position, &bits);
-    Mark {
-        next: second.next,
-        position: position + 1,
-    }
-}
-
-// Where the first holds 0 stays, and the second is passed over; the branch over it is stored when its length is known.
-#[cycle(emit_both_emit_condition_emit_either)]
-fn emit_either(bytes: &[u8], mark: Mark, depth: usize, space: &mut [i64]) -> Mark
-    requires { mark.position + 16 * 2 ^ depth ≤ 2 ^ 20 }
-    ensures { Emitted (two_pieces either_code (condition_code depth bytes.now))
-        mark space.old result space.new }
-{
-    let first = emit_condition(bytes, mark, depth, space);
-    let place = first.position;
-    let behind = Mark {
-        next: first.next,
-        position: place + 4,
     };
-    let second = emit_condition(bytes, behind, depth, space);
-    let over = second.position - place - 3;
-    let branches = [BNZ, 4, PUSH, 0, PUSH, 1, BNZ, over as i64];
-    emit(space, place, &branches);
-    second
+    let inner = Mark { next, ..mark };
+    match test {
+        Test::True => emit(space, inner, &[PUSH, 0]),
+        Test::Flows => emit_flows(bytes, inner, depth - 1, space),
+        Test::And => {
+            let first = emit_condition(bytes, inner, depth - 1, space);
+            let second = emit_condition(bytes, first, depth - 1, space);
+            emit(space, second, &[OR, 0])
+        }
+        Test::Or => {
+            let first = emit_condition(bytes, inner, depth - 1, space);
+            let second = emit_condition(bytes, first.after(4), depth - 1, space);
+            let over = second.position - first.position - 3;
+            emit(space, first, &[BNZ, 4, PUSH, 0, PUSH, 1, BNZ, over as i64]);
+            second
+        }
+    }
 }
 
 // ════════════════════════════════════════════════════════════════════════════════════════════
@@ -287,15 +230,10 @@ fn emit_answer(bytes: &[u8], mark: Mark, space: &mut [i64]) -> Mark
     requires { mark.position + 2048 ≤ 2 ^ 20 }
     ensures { Emitted (answer_code bytes.now) mark space.old result space.new }
 {
-    let place = emit_label(bytes, mark, 8, space);
-    let result = emit_label(bytes, place, 8, space);
-    let position = result.position;
+    let place = emit_label(bytes, mark, DEPTH_LIMIT, space);
+    let result = emit_label(bytes, place, DEPTH_LIMIT, space);
     let stores = [PUSH, 6, STORE, 0, PUSH, 5, STORE, 0, RET, 0];
-    emit(space, position, &stores);
-    Mark {
-        next: result.next,
-        position: position + 5,
-    }
+    emit(space, result, &stores)
 }
 
 // A rule with a condition: where it does not hold, the answer is passed over to the jump to -1.
@@ -303,23 +241,11 @@ fn emit_guarded(bytes: &[u8], mark: Mark, space: &mut [i64]) -> Mark
     requires { mark.position + 8192 ≤ 2 ^ 20 }
     ensures { Emitted (guarded_code bytes.now) mark space.old result space.new }
 {
-    let condition = emit_condition(bytes, mark, 8, space);
-    let place = condition.position;
-    let behind = Mark {
-        next: condition.next,
-        position: place + 1,
-    };
-    let answer = emit_answer(bytes, behind, space);
-    let position = answer.position;
-    let over = position - place;
-    let branch = [BNZ, over as i64];
-    emit(space, place, &branch);
-    let denial = [PUSH, -1, JUMP, 0];
-    emit(space, position, &denial);
-    Mark {
-        next: answer.next,
-        position: position + 2,
-    }
+    let condition = emit_condition(bytes, mark, DEPTH_LIMIT, space);
+    let answer = emit_answer(bytes, condition.after(1), space);
+    let over = answer.position - condition.position;
+    emit(space, condition, &[BNZ, over as i64]);
+    emit(space, answer, &[PUSH, -1, JUMP, 0])
 }
 
 // A rule; one that always allows tests nothing.
@@ -327,21 +253,12 @@ fn emit_rule(bytes: &[u8], mark: Mark, space: &mut [i64]) -> Mark
     requires { mark.position + 8192 ≤ 2 ^ 20 }
     ensures { Emitted (rule_code bytes.now) mark space.old result space.new }
 {
-    let at = mark.next;
-    if bytes.len() <= at {
+    let Ok((test, next)) = test_at(bytes, mark.next) else {
         return mark;
-    }
-    let position = mark.position;
-    let test = test_of(token_of(bytes[at]));
+    };
     match test {
-        Test::True => {
-            let next = at + 1;
-            emit_answer(bytes, Mark { next, position }, space)
-        }
-        Test::Flows => emit_guarded(bytes, mark, space),
-        Test::And => emit_guarded(bytes, mark, space),
-        Test::Or => emit_guarded(bytes, mark, space),
-        Test::Nothing => mark,
+        Test::True => emit_answer(bytes, Mark { next, ..mark }, space),
+        Test::Flows | Test::And | Test::Or => emit_guarded(bytes, mark, space),
     }
 }
 
@@ -354,19 +271,13 @@ fn emit_slots(starts: &[usize; RULES], space: &mut [i64])
     requires { Ahead starts.now }
     ensures { space.new ≡ put_code first_slot (slots_to first_slot starts.now opcodes) space.old }
 {
-    let mut i: usize = 0;
-    while i < CODES {
-        let shape = shape_of(i as u64 + 1);
-        match shape {
-            Shape::Of(_, _, _, rule) => {
-                let slot = 6 + i;
-                let ahead = starts[rule] - slot;
-                let branch = [BNZ, ahead as i64];
-                emit(space, slot, &branch);
-                i += 1;
-            }
-            Shape::Unknown => return,
-        }
+    for i in 0..CODES {
+        let Some(shape) = shape_of(i as u64 + 1) else {
+            return;
+        };
+        let slot = 6 + i;
+        let ahead = starts[shape.rule] - slot;
+        store(space, slot, &[BNZ, ahead as i64]);
     }
 }
 
@@ -377,30 +288,27 @@ fn emit_table(bytes: &[u8], space: &mut [i64]) -> usize
     ensures written { space.new ≡ put_code 0 (table_code bytes.now) space.old }
 {
     let dispatch = [PUSH, 0, LOAD, 0, DUP, 0, PUSH, 5, ADD, 0, JUMP, 0];
-    emit(space, 0, &dispatch);
-    let mut starts = [0usize; RULES];
+    store(space, 0, &dispatch);
+    let mut starts = [0; RULES];
     let mut mark = Mark {
         next: 0,
         position: FIRST,
     };
-    let mut i: usize = 0;
-    while i < RULES {
-        starts[i] = mark.position;
+    for start in starts.iter_mut() {
+        *start = mark.position;
         mark = emit_rule(bytes, mark, space);
-        i += 1;
     }
     emit_slots(&starts, space);
     mark.position
 }
 
-// How many instructions `write` stores of bytes where there is room, whatever the bytes: what a space of one word is given, which has
-// room for none. Of a table they are its handler's.
+// How many instructions `write` stores of bytes where there is room, whatever the bytes: what a space of no words is given. Of a table they
+// are its handler's.
 pub fn instructions(bytes: &[u8]) -> usize
     ensures count { result ≡ length (table_code bytes.now) }
     ensures handler { Handles (read_table bytes.now) (λ t code. result ≡ length code) }
 {
-    let mut none = [0i64; 1];
-    emit_table(bytes, &mut none)
+    emit_table(bytes, &mut [])
 }
 
 // Stores the handler of a table's bytes without a check: as far as there is room, whatever the bytes. Where the bytes are a table and there
@@ -418,9 +326,9 @@ pub fn count(bytes: &[u8]) -> usize
     ensures count { result ≡ length (handler_of (read_table bytes.now)) }
     ensures handler { Handles (read_table bytes.now) (λ t code. result ≡ length code) }
 {
-    let checked = check_table(bytes);
-    match checked {
-        Checked::Accepted => instructions(bytes),
-        Checked::Refused(_) => 0,
+    if check_table(bytes).is_ok() {
+        instructions(bytes)
+    } else {
+        0
     }
 }

@@ -5,6 +5,7 @@ pub mod Modulo
 pub mod Parts
 pub mod Wrap
 pub mod Exact
+pub mod Ends
 pub mod Word
 pub mod Field
 pub mod Numeral

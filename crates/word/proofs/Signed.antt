@@ -1,9 +1,8 @@
 -- Signed words: a number read back from its bits, the sign, and the test for 0.
 -- Assumes nothing.
-use Rattle.std.proofs.Common.{◌≡◌, ℕ, zero, suc, ◌^◌, ◌<◌, true, false, T, eqb, ℤ, pos, negsuc, nat_abs, sym, refl, ◌∙◌, arith, to_z-of_z, w64, Fits, SFits, to_z, of_z, ltb-true, eq-eqb, ne_eqb}
+use Rattle.std.proofs.Common.{◌≡◌, ℕ, zero, suc, ◌^◌, ◌<◌, true, false, T, eqb, ℤ, pos, negsuc, nat_abs, sym, refl, ◌∙◌, arith, to_z-of_z, w64, Fits, SFits, to_z, of_z, eq-eqb, ne_eqb}
 use lib.Signed.{lt_z, non_neg, mag}
-use Rattle.word.specs.declared.number.Natural.TheVariants.{Of, Negative}
-use Rattle.word.specs.Number.{natural_of, is_zero}
+use Rattle.word.specs.Number.{is_zero}
 
 -- a number that fits is read back from its bits
 pub back : {z : ℤ} → SFits w64 z → to_z w64 (of_z w64 z) ≡ z
@@ -12,14 +11,6 @@ back f = to_z-of_z f
 -- the same from the bound alone, which is what a call's `.ok` and an enum's field have
 pub back-ok : (z : ℤ) → mag z < 2 ^ 63 → to_z w64 (of_z w64 z) ≡ z
 back-ok z h = back (record { sfits = h })
-
-pub negative : (z : ℤ) → lt_z z (pos 0) ≡ true → Negative ≡ natural_of z
-negative (pos n) e = absurd (omega (arith, ltb-true n 0 e))
-negative (negsuc n) e = refl
-
-pub natural : (z : ℤ) → lt_z z (pos 0) ≡ false → Of (nat_abs z) ≡ natural_of z
-natural (pos n) e = refl
-natural (negsuc n) e = cc
 
 pub cast-natural : (z : ℤ) → SFits w64 z → lt_z z (pos 0) ≡ false → T (non_neg z) × Fits w64 (nat_abs z)
 cast-natural (pos n) f e = (tt, record { fits = let h = f.sfits in omega arith })

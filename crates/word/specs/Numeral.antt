@@ -1,10 +1,8 @@
 -- Numbers read from text: digits, perhaps after a minus. How numbers are written: Text.antt.
-use Rattle.std.specs.Prelude.{ℕ, zero, suc, ◌+◌, ◌*◌, ◌^◌, Bool, true, false, ◌&&◌, List, [], ◌∷◌, length, drop, ℤ, pos, negsuc, ◌==◌, nat_le, nat_lt, slice_index}
-use Rattle.std.proofs.Math.Option.{Option, none, some}
+use Rattle.std.specs.Prelude.{ℕ, zero, suc, ◌+◌, ◌*◌, ◌^◌, Bool, true, false, ◌&&◌, List, [], ◌∷◌, length, drop, ℤ, pos, negsuc, ◌==◌, nat_le, nat_lt, slice_index, None, Option, Some}
 use Rattle.word.specs.Choose.{choose}
 use Rattle.word.specs.Exact.{exactly}
 use Rattle.word.specs.Text.{numeral_value}
-use Rattle.word.specs.declared.exact.Exact.{Exact}
 use Rattle.word.specs.declared.numeral.Decimal.{Decimal}
 use Rattle.word.specs.declared.numeral.Decimal.TheVariants.{Is, Beyond, Missing}
 use Rattle.word.specs.declared.numeral.Digits.{Digits}
@@ -25,12 +23,12 @@ signed_by true (suc n) = negsuc n
 
 -- at least one digit, and nothing else
 abbrev pub digits_number : Bool → List ℕ → Option ℤ
-digits_number minus [] = none
-digits_number minus (c ∷ s) = choose (all_digits (c ∷ s)) (some (signed_by minus (numeral_value 10 (c ∷ s)))) none
+digits_number minus [] = None
+digits_number minus (c ∷ s) = choose (all_digits (c ∷ s)) (Some (signed_by minus (numeral_value 10 (c ∷ s)))) None
 
 -- the number that a text is in decimal: digits, perhaps after a minus (45); of any length, leading zeros too
 unfoldable pub number_of : List ℕ → Option ℤ
-number_of [] = none
+number_of [] = None
 number_of (c ∷ s) = choose (c == 45) (digits_number true s) (digits_number false (c ∷ s))
 
 -- ════════════════════════════════════════════════════════════════════════════════════════════
@@ -43,9 +41,9 @@ leading_digits [] = []
 leading_digits (c ∷ s) = choose (is_digit c) (c ∷ leading_digits s) []
 
 -- the number and the position after it
-abbrev pub decimal_to : ℕ → Exact → Decimal
-decimal_to next (Exact.Number z) = Is z next
-decimal_to next Exact.Outside = Beyond next
+abbrev pub decimal_to : ℕ → Option ℤ → Decimal
+decimal_to next (Some z) = Is z next
+decimal_to next None = Beyond next
 
 abbrev pub decimal_from : Bool → ℕ → List ℕ → Decimal
 decimal_from minus at [] = Missing

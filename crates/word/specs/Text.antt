@@ -1,11 +1,9 @@
 -- Text as ASCII bytes; numbers as text: digits, the highest first.
-use Rattle.std.specs.Prelude.{ℕ, zero, suc, ◌+◌, ◌-◌, ◌/◌, Bool, true, false, List, [], ◌∷◌, map, reverse, length, ℤ, pos, negsuc, nat_le, nat_lt}
+use Rattle.std.specs.Prelude.{ℕ, zero, suc, ◌+◌, ◌-◌, ◌/◌, Bool, true, false, List, [], ◌∷◌, map, reverse, length, ℤ, pos, negsuc, nat_le, nat_lt, None, Option, Some}
 use Prim.Native.Char.{code}
 use Prim.Native.String.{String}
 use Rattle.word.specs.Digits.{digits_of, value_of}
 use Rattle.word.specs.Lay.{laid_at}
-use Rattle.word.specs.declared.text.Put.{Put}
-use Rattle.word.specs.declared.text.Put.TheVariants.{Next, NoRoom}
 
 -- the bytes of a text
 abbrev pub ascii : String → List ℕ
@@ -58,16 +56,16 @@ decimal (negsuc n) = 45 ∷ natural (suc n)
 unfoldable pub hexadecimal : ℕ → List ℕ
 hexadecimal n = numeral 16 8 n
 
-abbrev pub room_for : Bool → ℕ → Put
-room_for true next = Next next
-room_for false next = NoRoom
+abbrev pub room_for : Bool → ℕ → Option ℕ
+room_for true next = Some next
+room_for false next = None
 
 abbrev pub laid_if : Bool → ℕ → List ℕ → List ℕ → List ℕ
 laid_if true at text old = laid_at at text old
 laid_if false at text old = old
 
 -- a text is written at a position if there is room, and else nothing is; the answer is the position after it
-unfoldable pub put_answer : ℕ → List ℕ → List ℕ → Put
+unfoldable pub put_answer : ℕ → List ℕ → List ℕ → Option ℕ
 put_answer at text old = room_for (nat_le (at + length text) (length old)) (at + length text)
 
 unfoldable pub put_out : ℕ → List ℕ → List ℕ → List ℕ

@@ -1,13 +1,12 @@
 // Two of the three kinds of document 01 that never stand in for one another: command numbers and cell addresses.
-// Each is a type, so that none is taken for another. The third kind, labels, is a crate of its own.
+// Each is a type, so that none is taken for another; one generic `index` over both would be longer than the two lines that it saves. The third
+// kind, labels, is a crate of its own.
 ghost use Rattle.std.specs.Prelude.{◌≡◌};
 ghost use Rattle.word.specs.Wrap.{add_wrap};
 ghost use Rattle.word.specs.Number.{index_of};
 
-use crate::number::Index;
-
 // A command number of document 01, as the place is one. A program can compute any, so it may lie outside the sheet.
-#[derive(Clone, Copy)]
+#[derive(Clone, Copy, PartialEq, Eq, Debug)]
 pub struct Pc(pub i64);
 
 impl Pc {
@@ -19,7 +18,7 @@ impl Pc {
     }
 
     // Where in a sheet of so many commands it stands.
-    pub fn index(self, commands: usize) -> Index
+    pub fn index(self, commands: usize) -> Option<usize>
         ensures { result ≡ index_of self.0 commands }
     {
         crate::number::below(self.0, commands)
@@ -27,12 +26,12 @@ impl Pc {
 }
 
 // A cell address of document 01. A program can compute any, so it may lie outside the cells.
-#[derive(Clone, Copy)]
+#[derive(Clone, Copy, PartialEq, Eq, Debug)]
 pub struct Address(pub i64);
 
 impl Address {
     // Which of so many cells it names.
-    pub fn index(self, cells: usize) -> Index
+    pub fn index(self, cells: usize) -> Option<usize>
         ensures { result ≡ index_of self.0 cells }
     {
         crate::number::below(self.0, cells)

@@ -1,9 +1,11 @@
 // Numbers read from text. Read specs/Numeral.antt first.
-ghost use Rattle.std.specs.Prelude.{◌≡◌, ◌<◌, drop, ◌==◌, slice_index};
-ghost use Rattle.word.specs.Numeral.{leading_digits, decimal_at, capped_more, capped_digits, capped_decimal};
+ghost use Rattle.std.specs.Prelude.{◌≡◌, ◌<◌, drop};
+ghost use Rattle.word.specs.Exact.{exactly};
+ghost use Rattle.word.specs.Numeral.{leading_digits, signed_by, decimal_at, capped_more, capped_digits, capped_decimal};
 
-// A decimal number and the position after it: a word, or beyond the words; or that no number is there.
-#[derive(Drop)]
+// A decimal number and the position after it: a word, or beyond the words; or that no number is there. Three answers, of which two have a
+// position: an Option of an Option would not say which is which.
+#[derive(Clone, Copy, PartialEq, Eq, Debug)]
 pub enum Decimal {
     Is(i64, usize),
     Beyond(usize),
@@ -11,7 +13,7 @@ pub enum Decimal {
 }
 
 // The number that some digits are, as far as it is below 10^19, and the position after them.
-#[derive(Drop)]
+#[derive(Clone, Copy)]
 struct Digits {
     value: u64,
     next: usize,
@@ -21,41 +23,34 @@ struct Digits {
 pub fn decimal_at(s: &[u8], at: usize) -> Decimal
     ensures { result ≡ decimal_at s.now at }
 {
-    if minus_at(s, at) {
-        let digits = leading(s, at + 1);
-        return signed(true, at + 1, digits.value, digits.next);
+    if s.get(at) == Some(&b'-') {
+        signed_digits(true, at + 1, leading(s, at + 1))
+    } else {
+        signed_digits(false, at, leading(s, at))
     }
-    let digits = leading(s, at);
-    signed(false, at, digits.value, digits.next)
 }
 
-// Is there a minus?
-fn minus_at(s: &[u8], at: usize) -> bool
-    ensures { result ≡ (slice_index s.now at == 45) }
+// Digits from a position on, of which there may be none, as a number with its sign.
+fn signed_digits(minus: bool, at: usize, digits: Digits) -> Decimal
+    ensures { result ≡ capped_decimal minus at digits.value digits.next }
 {
-    if at < s.len() { s[at] == b'-' } else { false }
-}
-
-// Digits between two positions, of which there may be none, as a number with its sign.
-fn signed(minus: bool, at: usize, size: u64, next: usize) -> Decimal
-    ensures { result ≡ capped_decimal minus at size next }
-{
-    if next == at {
+    if digits.next == at {
         return Decimal::Missing;
     }
-    if minus {
-        if 9223372036854775808 < size {
-            return Decimal::Beyond(next);
-        }
-        if size == 0 {
-            return Decimal::Is(0, next);
-        }
-        return Decimal::Is(-1 - (size - 1) as i64, next);
+    match signed(minus, digits.value) {
+        Some(n) => Decimal::Is(n, digits.next),
+        None => Decimal::Beyond(digits.next),
     }
-    if size < 9223372036854775808 {
-        Decimal::Is(size as i64, next)
+}
+
+// A number with its sign, where it is a word.
+fn signed(minus: bool, size: u64) -> Option<i64>
+    ensures { result ≡ exactly (signed_by minus size) }
+{
+    if minus {
+        0i64.checked_sub_unsigned(size)
     } else {
-        Decimal::Beyond(next)
+        0i64.checked_add_unsigned(size)
     }
 }
 
@@ -64,29 +59,24 @@ fn leading(s: &[u8], at: usize) -> Digits
     ensures { result ≡ capped_digits at (leading_digits (drop at s.now)) }
 {
     let mut value: u64 = 0;
-    let mut i = at;
-    while i < s.len() {
-        let c = s[i];
-        if c < b'0' {
-            return Digits { value, next: i };
-        }
-        if b'9' < c {
-            return Digits { value, next: i };
-        }
-        value = more(value, c as u64 - 48);
-        i += 1;
+    // a `while`, since the position that it stops at is an answer too
+    let mut next = at;
+    while next < s.len() && s[next].is_ascii_digit() {
+        value = more(value, s[next] as u64 - b'0' as u64);
+        next += 1;
     }
-    Digits { value, next: i }
+    Digits { value, next }
 }
 
 // One digit more.
+#[tactic(auto, unfolding(crate::specs::Numeral::capped_more))]
 fn more(value: u64, digit: u64) -> u64
     requires { digit < 10 }
     ensures { result ≡ capped_more value digit }
 {
-    if value < 1000000000000000000 {
+    if value < 1_000_000_000_000_000_000 {
         value * 10 + digit
     } else {
-        10000000000000000000
+        10_000_000_000_000_000_000
     }
 }

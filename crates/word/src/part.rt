@@ -1,16 +1,27 @@
 // A part of lent memory.
-ghost use Rattle.std.specs.Prelude.{◌≡◌, ◌+◌, take, nat_le};
+ghost use Rattle.std.specs.Prelude.{◌≡◌, ◌+◌, ◌<◌, ◌≤◌, take, MatchOption};
+ghost use Rattle.word.specs.Text.{put_answer, put_out};
 
-// Do `size` elements from `at` on lie within the first `len`? The sum is not formed: it may not fit.
-pub(crate) fn within(len: usize, at: usize, size: usize) -> bool
-    ensures { result ≡ nat_le (at + size) len }
+// The position after `size` elements from `at` on, if these lie within the first `len`.
+pub(crate) fn end(len: usize, at: usize, size: usize) -> Option<usize>
+    ensures { MatchOption result (len < at + size) (λ end. (at + size ≤ len) × (end ≡ at + size)) }
 {
-    if len < size { false } else { at <= len - size }
+    at.checked_add(size).filter(|end| *end <= len)
 }
 
 // As many bytes from the start, all of them where there are no more.
 pub fn first(s: &[u8], count: usize) -> &[u8]
     ensures { result.now ≡ take count s.now }
 {
-    if count <= s.len() { &s[..count] } else { s }
+    &s[..count.min(s.len())]
+}
+
+// Writes some bytes, if there is room.
+pub(crate) fn put_bytes(bytes: &[u8], out: &mut [u8], at: usize) -> Option<usize>
+    ensures answer { result ≡ put_answer at bytes.now out.old }
+    ensures written { out.new ≡ put_out at bytes.now out.old }
+{
+    let next = end(out.len(), at, bytes.len())?;
+    out[at..next].copy_from_slice(bytes);
+    Some(next)
 }

@@ -1,46 +1,35 @@
 // Numbers as text, for a page. Read specs/Text.antt first.
-ghost use Rattle.std.specs.Prelude.{◌≡◌, ◌+◌, ◌<◌, ◌≤◌, length, unsigned_abs};
-ghost use Rattle.word.specs.Lay.{laid_at};
+ghost use Rattle.std.specs.Prelude.{◌≡◌, ◌<◌, ◌≤◌, length};
 ghost use Rattle.word.specs.Text.{digit_char, numeral, digit_count, natural, decimal, hexadecimal, put_answer, put_out};
 
-use crate::part::within;
-
-// The position after what was written, or that nothing was, as there is no room for all of it.
-#[derive(Drop)]
-pub enum Put {
-    Next(usize),
-    NoRoom,
-}
+use crate::part::end;
 
 // A number in decimal, a minus sign before a negative one.
-pub fn put_decimal(n: i64, out: &mut [u8], at: usize) -> Put
+pub fn put_decimal(n: i64, out: &mut [u8], at: usize) -> Option<usize>
     ensures answer { result ≡ put_answer at (decimal n) out.old }
     ensures written { out.new ≡ put_out at (decimal n) out.old }
 {
-    let size = magnitude(n);
+    let size = n.unsigned_abs();
     let count = digit_count(size);
     if n < 0 {
-        if within(out.len(), at, count + 1) {
-            out[at] = b'-';
-            put_numeral(size, 10, count, out, at + 1)
-        } else {
-            Put::NoRoom
-        }
-    } else {
-        put_numeral(size, 10, count, out, at)
+        end(out.len(), at, count + 1)?;
+        out[at] = b'-';
+        return put_numeral(size, 10, count, out, at + 1);
     }
+    put_numeral(size, 10, count, out, at)
 }
 
 // How many characters a number in decimal has.
 pub fn decimal_length(n: i64) -> usize
     ensures { result ≡ length (decimal n) }
 {
-    let count = digit_count(magnitude(n));
+    let count = digit_count(n.unsigned_abs());
     if n < 0 { count + 1 } else { count }
 }
 
 // A number that has no sign in decimal, as a page has a place.
-pub fn put_natural(n: u64, out: &mut [u8], at: usize) -> Put
+#[tactic(auto, unfolding(crate::specs::Text::natural))]
+pub fn put_natural(n: u64, out: &mut [u8], at: usize) -> Option<usize>
     ensures answer { result ≡ put_answer at (natural n) out.old }
     ensures written { out.new ≡ put_out at (natural n) out.old }
 {
@@ -48,7 +37,8 @@ pub fn put_natural(n: u64, out: &mut [u8], at: usize) -> Put
 }
 
 // Eight hexadecimal digits, as a page has a label.
-pub fn put_hex(n: u32, out: &mut [u8], at: usize) -> Put
+#[tactic(auto, unfolding(crate::specs::Text::hexadecimal))]
+pub fn put_hex(n: u32, out: &mut [u8], at: usize) -> Option<usize>
     ensures answer { result ≡ put_answer at (hexadecimal n) out.old }
     ensures written { out.new ≡ put_out at (hexadecimal n) out.old }
 {
@@ -56,34 +46,30 @@ pub fn put_hex(n: u32, out: &mut [u8], at: usize) -> Put
 }
 
 // So many digits of a number, if there is room.
-fn put_numeral(n: u64, base: u64, count: usize, out: &mut [u8], at: usize) -> Put
+fn put_numeral(n: u64, base: u64, count: usize, out: &mut [u8], at: usize) -> Option<usize>
     requires { (0 < base) × (base ≤ 16) }
     ensures answer { result ≡ put_answer at (numeral base count n) out.old }
     ensures written { out.new ≡ put_out at (numeral base count n) out.old }
 {
-    if within(out.len(), at, count) {
-        put_digits(n, base, count, out, at);
-        Put::Next(at + count)
-    } else {
-        Put::NoRoom
-    }
+    let next = end(out.len(), at, count)?;
+    fill_digits(n, base, &mut out[at..next]);
+    Some(next)
 }
 
 // The lowest digit comes last, and is the first that division gives.
-fn put_digits(n: u64, base: u64, count: usize, out: &mut [u8], at: usize)
-    requires { (0 < base) × (base ≤ 16) × (at + count ≤ length out.old) }
-    ensures { out.new ≡ laid_at at (numeral base count n) out.old }
+fn fill_digits(n: u64, base: u64, digits: &mut [u8])
+    requires { (0 < base) × (base ≤ 16) }
+    ensures { digits.new ≡ numeral base (length digits.old) n }
 {
     let mut rest = n;
-    let mut i = count;
-    while 0 < i {
-        i -= 1;
-        out[at + i] = digit(rest % base);
-        rest = rest / base;
+    for i in (0..digits.len()).rev() {
+        digits[i] = digit(rest % base);
+        rest /= base;
     }
 }
 
 // The character of a digit.
+#[tactic(auto, unfolding(crate::specs::Text::digit_char))]
 fn digit(d: u64) -> u8
     requires { d < 16 }
     ensures { result ≡ digit_char d }
@@ -95,25 +81,9 @@ fn digit(d: u64) -> u8
     }
 }
 
-// A number without its sign.
-fn magnitude(n: i64) -> u64
-    ensures { result ≡ unsigned_abs n }
-{
-    if n < 0 { (-1 - n) as u64 + 1 } else { n as u64 }
-}
-
-// How many decimal digits a number has: one at least, and at most the 20 of 2^64 - 1. Compared and not divided: that is sooner done.
+// How many decimal digits a number has: one at least, and at most the 20 of 2^64 - 1.
 fn digit_count(n: u64) -> usize
     ensures { result ≡ digit_count 10 19 n }
 {
-    let mut count: usize = 1;
-    let mut limit: u64 = 10;
-    while count < 19 {
-        if n < limit {
-            return count;
-        }
-        limit = limit * 10;
-        count += 1;
-    }
-    if n < limit { 19 } else { 20 }
+    n.max(1).ilog10() as usize + 1
 }

@@ -7,28 +7,25 @@ ghost use Rattle.word.specs.Wrap.{residue, signed, add_wrap, sub_wrap};
 pub fn add(a: i64, b: i64) -> i64
     ensures { result ≡ add_wrap a b }
 {
-    complement(std::num::wrapping_add_u64(to_bits(a), to_bits(b)), 64)
+    a.wrapping_add(b)
 }
 
 // Sub of the kernel, which wraps.
 pub fn sub(a: i64, b: i64) -> i64
     ensures { result ≡ sub_wrap a b }
 {
-    complement(std::num::wrapping_sub_u64(to_bits(a), to_bits(b)), 64)
+    a.wrapping_sub(b)
 }
 
-// A word's bits: -1 has them all, and -1 - n lacks those of n. Compiled, both branches are the word as it is.
+// A word's bits.
 pub fn to_bits(word: i64) -> u64
     ensures { result ≡ residue 64 word }
 {
-    if word < 0 {
-        u64::MAX - (-1 - word) as u64
-    } else {
-        word as u64
-    }
+    word.cast_unsigned()
 }
 
 // The number that so many bits stand for: the upper half are the negative ones.
+#[tactic(auto, unfolding(crate::specs::Wrap::signed))]
 pub(crate) fn complement(bits: u64, width: usize) -> i64
     requires { (0 < width) × (width ≤ 64) × (bits < 2 ^ width) }
     ensures { result ≡ signed width bits }

@@ -1,21 +1,23 @@
 -- A command that is stopped, and one that is carried out: the words hold the next state where the record, the stack and the runs that
 -- changed do.
 -- Assumes nothing.
-use mathlib.Core.Path.{◌≡◌, refl}
+use Rattle.std.proofs.Common.{Err, Ok}
+use mathlib.Core.Path.{◌≡◌, refl, ap}
 use mathlib.Core.List.{List, ◌∷◌}
 use Prim.Native.Nat.{ℕ, suc, ◌-◌, ◌≤◌, ◌<◌}
-use native.Mathlib.Omega.{arith}
 use lib.IntN.{ℤ, pos, ◌+ℤ◌}
 use lib.ListN.{length}
 use Rattle.word.specs.Lay.{laid}
 use Rattle.word.specs.Wrap.{Signed}
 use Rattle.machine.specs.Atom.{Atom, Entry, value}
 use Rattle.machine.specs.Environment.{Environment}
-use Rattle.machine.specs.State.{State, Stop, stop_number}
+use Rattle.machine.specs.State.{State}
+use Rattle.machine.specs.declared.Stop.{Stop}
 use Rattle.machine.specs.Step.{stopped, stepped, stack_limit, atom, goto, next}
-use Rattle.machine.proofs.Stops.{stop-other}
 use Rattle.stack.specs.declared.Machine.{Machine}
-use Rattle.stack.specs.Words.{machine, outcome, carried_out, prints, slot_at}
+use Rattle.stack.specs.declared.Kind.TheVariants.{Value}
+use Rattle.stack.specs.Words as Words
+use Rattle.stack.specs.Words.{machine, slot_at}
 use Rattle.step.specs.Lent.{Cells, Lent, lent, after, with_stack}
 use Rattle.step.specs.Effect.{refilling}
 use Rattle.engine.specs.Memory.{Output}
@@ -29,9 +31,9 @@ use Rattle.engine.proofs.Link.Represents.{Represents, Simulates}
 
 -- a stop, which is no line, is the run's
 pub stop-simulates : (env : Environment) (o₀ : Output) (m : Machine) (l : Lent) (o : Output) (x : Stop)
-    → Simulates env o₀ m l o (stopped x) (after (outcome m (stop_number x)) l)
+    → Simulates env o₀ m l o (stopped x) (after (Err x) l)
 unfolding emit_of
-stop-simulates env o₀ m l o x = (rw (stop-other x prints (omega arith)), refl)
+stop-simulates env o₀ m l o x = (refl, refl)
 
 module _ (env : Environment) {o₀ : Output} {s : State} {l : Lent} {o : Output} (r : Represents o₀ s (machine_of s) l o) where
   -- the record that a command leaves is that of t, which has written no line; the stack is laid over the stack that was
@@ -40,24 +42,24 @@ module _ (env : Environment) {o₀ : Output} {s : State} {l : Lent} {o : Output}
       → st ≡ laid (stack_words es) l.stack → c ≡ cell_words memory
       → Simulates env o₀ (machine_of s) l o
       (stepped (record { pc = p; stack = es; memory = memory; lines = s.lines; steps = suc s.steps }))
-      (after (outcome m carried_out) (lent st c))
+      (after (Words.carried m) (lent st c))
   unfolding emit_of
   carried p es memory e stack cells = (
-    refl,
-    record { machine = e; stack = laid-again (stack_words es) l.stack stack; cells = cells; output = r.output },
+    ap Ok e,
+    record { machine = refl; stack = laid-again (stack_words es) l.stack stack; cells = cells; output = r.output },
     stack,
   )
 
   -- the place and the stack change, the cells stay
   pub goto-carried : (p : Atom) (es : List Entry) {m : Machine} {st : List ℤ}
       → m ≡ machine p.number p.label (length es) (length s.lines) → st ≡ laid (stack_words es) l.stack
-      → Simulates env o₀ (machine_of s) l o (goto s p es) (after (outcome m carried_out) (lent st l.cells))
+      → Simulates env o₀ (machine_of s) l o (goto s p es) (after (Words.carried m) (lent st l.cells))
   goto-carried p es e g = carried p es s.memory e g r.cells
 
   -- a value stands in place of one that is dropped, and the place is the next
   pub refill-carried : (es : List Entry) {m : Machine} (n : ℤ) (label p below : ℕ) → Signed 64 (s.pc.number +ℤ pos 1)
       → 768 ≤ length l.stack → length es < stack_limit → Held es l.stack
-      → length es ≡ length s.stack - below - 1 → (slot_at l.stack (length s.stack) below).kind ≡ 0
+      → length es ≡ length s.stack - below - 1 → (slot_at l.stack (length s.stack) below).kind ≡ Value
       → m ≡ machine s.pc.number s.pc.label (length es) (length s.lines)
       → Simulates env o₀ (machine_of s) l o (next s p (value (atom n label) ∷ es)) (with_stack l (refilling m l.stack n label p))
   refill-carried es n label p below on space fits held depth kind e =

@@ -1,7 +1,7 @@
 -- Each command on words finds what the machine's command asks with, and does what it does, under any rule.
 -- Assumes nothing.
+use Rattle.std.proofs.Common.{None, Some, Option}
 use mathlib.Core.Path.{◌≡◌, refl, ap, ap₂, ◌∙◌}
-use mathlib.Core.Option.{Option, none, some}
 use mathlib.Core.Bool.{Bool, true, false}
 use mathlib.Core.List.{List, ◌∷◌, ◌++◌, map}
 use Prim.Native.Nat.{ℕ, zero, suc, ◌≤◌, ◌<◌}
@@ -13,24 +13,26 @@ use lib.Dec.{ltb}
 use borrow.Author.Tests.{ltb-true}
 use Rattle.word.specs.Choose.{choose}
 use Rattle.word.specs.Wrap.{Signed}
-use Rattle.word.specs.declared.exact.Exact.TheVariants.{Number, Outside}
 use Rattle.word.specs.Exact.{is_signed, exactly}
 use Rattle.program.specs.declared.Command.{Command}
 use Rattle.program.specs.declared.Command.TheVariants.{Add, Sub, Pop, Output, Push, Load, Store, Jump, Bnz, Call, Ret, OutputTo, CallN, RetV}
 use Rattle.program.specs.Command.{arguments_of, results_of}
 use Rattle.machine.specs.Atom.{Atom, Entry, value, frame, number_line}
 use Rattle.machine.specs.Environment.{Environment, barrier}
-use Rattle.machine.specs.State.{State, Stop, overflow, stack_full}
+use Rattle.machine.specs.State.{State}
+use Rattle.machine.specs.declared.Stop.{Stop}
+use Rattle.machine.specs.declared.Stop.TheVariants.{Overflow, StackFull}
 use Rattle.machine.specs.Step.{Outcome, Request, provided, unless_barred, stack_limit, making, calling, request, atom, next, printing}
 use Rattle.machine.specs.Step.{branch}
 use Rattle.machine.proofs.Barrier.{barrier-held, barred-none}
 use Rattle.stack.specs.Words.{machine, pushed, dropped, gone, slot_at}
-use Rattle.step.specs.declared.find.Inputs.{Inputs}
+use Rattle.step.specs.Find as Find
 use Rattle.step.specs.Lent.{Cells, cells, Lent, After, after, OnStack, with_stack}
 use Rattle.step.specs.Cell.{label_of}
+use Rattle.stack.specs.declared.Kind.TheVariants.{Value}
 use Rattle.stack.specs.declared.Slot.{Slot}
 use Rattle.label.specs.Label.{bottom}
-use Rattle.step.specs.Find.{inputs, first, second, load_finding, store_finding, two_values, one_value, call_values, one_frame, value_and_frame, load_cell}
+use Rattle.step.specs.Find.{first, second, load_finding, store_finding, two_values, one_value, call_values, one_frame, value_and_frame, load_cell}
 use Rattle.step.specs.Find.{store_cell}
 use Rattle.step.specs.Find.{find_of}
 use Rattle.step.specs.Effect.{sum_of, branch_of, refilling, arith_from, arith_effect, pop_effect, output_effect, push_effect}
@@ -59,7 +61,7 @@ module _ {env : Environment} {o₀ : Memory.Output} {s : State} {l : Lent} {o : 
   Sim = Simulates env o₀ (machine_of s) l o
 
   -- what the command c asks, and what it finds on words
-  abbrev Asks : Command → Request → Inputs → Type 0
+  abbrev Asks : Command → Request → Find.Found → Type 0
   Asks c = Looks c (machine_of s) l env o₀ o
 
   abbrev Found : Command → Type 0
@@ -102,7 +104,7 @@ module _ {env : Environment} {o₀ : Memory.Output} {s : State} {l : Lent} {o : 
   refill-one rest a n label p e =
       let d : suc (length rest) ≤ stack_limit = depth e in
       let size : length s.stack ≡ suc (length rest) = ap length e in
-      let kind : (slot_at l.stack (length s.stack) 0).kind ≡ 0 = rw (first-is, e) in
+      let kind : (slot_at l.stack (length s.stack) 0).kind ≡ Value = rw (first-is, e) in
       refill-carried env r rest n label p 0 on h.space (omega arith) (under_one e) (omega arith) kind
       (rw e (dropped-entry _ _ _ _))
 
@@ -111,7 +113,7 @@ module _ {env : Environment} {o₀ : Memory.Output} {s : State} {l : Lent} {o : 
   refill-two rest a b n label p e =
       let d : suc (suc (length rest)) ≤ stack_limit = depth e in
       let size : length s.stack ≡ suc (suc (length rest)) = ap length e in
-      let kind : (slot_at l.stack (length s.stack) 1).kind ≡ 0 = rw (second_is, e) in
+      let kind : (slot_at l.stack (length s.stack) 1).kind ≡ Value = rw (second_is, e) in
       refill-carried env r rest n label p 1 on h.space (omega arith) (under-two e) (omega arith) kind
       (rw e (dropped-entries _ _ _ _))
 
@@ -121,15 +123,15 @@ module _ {env : Environment} {o₀ : Memory.Output} {s : State} {l : Lent} {o : 
 
   -- the whole number that is made of two values is a word, or it is stop 9
   number-made : (a b : Atom) (rest : List Entry) (n : ℤ) (label p : ℕ) → s.stack ≡ value a ∷ value b ∷ rest
-      → Sim (provided (is_signed 64 n) overflow (next s p (value (atom n label) ∷ rest)))
+      → Sim (provided (is_signed 64 n) Overflow (next s p (value (atom n label) ∷ rest)))
       (with_stack l (arith_from p label (machine_of s) l.stack (exactly n)))
   unfolding exactly
   number-made a b rest n label p e = by (is_signed 64 n)
     where
-      by : (t : Bool) → Sim (provided t overflow (next s p (value (atom n label) ∷ rest)))
-          (with_stack l (arith_from p label (machine_of s) l.stack (choose t (Number n) Outside)))
+      by : (t : Bool) → Sim (provided t Overflow (next s p (value (atom n label) ∷ rest)))
+          (with_stack l (arith_from p label (machine_of s) l.stack (choose t (Some n) None)))
       by true = refill-two rest a b n label p e
-      by false = stop-simulates env o₀ (machine_of s) l o overflow
+      by false = stop-simulates env o₀ (machine_of s) l o Overflow
 
   -- what both ask and do
   making-looks : (c : Command) (make : ℤ → ℤ → ℤ)
@@ -169,13 +171,13 @@ module _ {env : Environment} {o₀ : Memory.Output} {s : State} {l : Lent} {o : 
       → Sim (unless_barred b (printing s p rest (number_line page a.number label)))
       (after (output_effect p label (machine_of s) page l.stack) l)
   unfolding output_effect emit_of write_of
-  line-written page a rest p label (some x) e t = (rw (first-is, e, t), refl)
-  line-written page a rest p label none e t =
+  line-written page a rest p label (Some x) e t = (rw (first-is, e, t), refl)
+  line-written page a rest p label None e t =
       let fits : length s.lines < env.room = (barred-none env _ _ (barrier-held env _ _ t)).1 in
       rw (first-is, e, t) (
-        refl,
+        rw (dropped-entry, following-next _ _ _ _ p on, printed-line _ _ _ _ env.room fits, length-append, add-one),
         record {
-          machine = rw (dropped-entry, following-next _ _ _ _ p on, printed-line _ _ _ _ env.room fits, length-append, add-one);
+          machine = refl;
           stack = under_one e;
           cells = r.cells;
           output = line-at s.lines (number_line page a.number label) o o₀ r.output (omega (arith, h.fits));
@@ -200,13 +202,13 @@ module _ {env : Environment} {o₀ : Memory.Output} {s : State} {l : Lent} {o : 
   push-looks n = (
     refl,
     λ p label.
-        room-needed (λ o (x : OnStack). Sim o (with_stack l x)) (ltb (length s.stack) stack_limit) stack_full _ _ _
+        room-needed (λ o (x : OnStack). Sim o (with_stack l x)) (ltb (length s.stack) stack_limit) StackFull _ _ _
         (λ t.
         let fits : length s.stack < stack_limit = ltb-true _ _ t in
         goto-carried env r _ _
         (rw (pushed-entry _ _ (length s.stack) _ fits) (following-next _ _ _ _ p on))
         (stack-pushed _ _ _ (value (atom n label)) s.stack l.stack fits h.space r.stack))
-        (stop-simulates env o₀ (machine_of s) l o stack_full),
+        (stop-simulates env o₀ (machine_of s) l o StackFull),
   )
 
   -- ══════════════════════════════════════════════════════════════════════════════════════════
@@ -276,7 +278,7 @@ module _ {env : Environment} {o₀ : Memory.Output} {s : State} {l : Lent} {o : 
   ret-v-looks =
       rw first-is (value-needed (Asks RetV) s.stack _ _ _ refl (λ v under e.
       rw (second_is, ap top_slot e, ap (λ es. top_slot (below es)) e) (frame-needed (Asks RetV) true under _ _ _ _ refl refl (λ a rest g. (
-        ap (λ (x : Slot). inputs 2 v.label x.label.0 bottom) (ap top_slot g),
+        ap (λ (x : Slot). Find.found 2 v.label x.label.0 bottom) (ap top_slot g),
         λ p label.
             let f : s.stack ≡ value v ∷ frame true a ∷ rest = e ∙ ap (λ (es : List Entry). value v ∷ es) g in
             let d : suc (suc (length rest)) ≤ stack_limit = depth f in

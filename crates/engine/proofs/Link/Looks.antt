@@ -1,5 +1,6 @@
 -- What a command asks of its rule, in the machine and on words: both are stopped, or both have the same inputs and then, whatever two
 -- labels the rule gives, what is done on words simulates what the machine does.
+use Rattle.std.proofs.Common.{Err, Ok}
 use Prim.Native.Nat.{ℕ, ◌+◌}
 use mathlib.Core.Path.{◌≡◌}
 use lib.IntN.{pos}
@@ -7,12 +8,11 @@ use Rattle.program.specs.declared.Command.{Command}
 use Rattle.program.specs.Command.{opcode, code_of, operand}
 use Rattle.machine.specs.Environment.{Environment}
 use Rattle.machine.specs.Rule.{Input, present, missing, label_of, Key}
-use Rattle.machine.specs.State.{stop_number}
 use Rattle.machine.specs.Step.{Request, halt, ask}
 use Rattle.stack.specs.declared.Machine.{Machine}
 use Rattle.step.specs.declared.find.Inputs.{Inputs}
 use Rattle.step.specs.Lent.{Lent, After}
-use Rattle.step.specs.Find.{inputs, halted, find_of}
+use Rattle.step.specs.Find.{inputs, Found, find_of}
 use Rattle.step.specs.Effect.{effect_of}
 use Rattle.engine.specs.Memory.{Output}
 use Rattle.engine.specs.Act.{Asked}
@@ -32,13 +32,13 @@ asked_for k = record { code = pos (code_of k.opcode); pc = k.pc; inputs = findin
 
 module _ (c : Command) (m : Machine) (l : Lent) where
   -- what the command finds on words
-  abbrev pub found : Inputs
+  abbrev pub found : Found
   found = find_of (code_of (opcode c)) (operand c) m l
 
   -- what it does there, with a new place label and a result label
   abbrev pub effect : (p r : ℕ) → After
   effect p r = effect_of p r m (code_of (opcode c)) (operand c) l
 
-  abbrev pub Looks : (env : Environment) (o₀ o : Output) → Request → Inputs → Type 0
-  Looks env o₀ o (halt x) i = i ≡ halted (stop_number x)
-  Looks env o₀ o (ask l1 l2 l3 k) i = (i ≡ finding l1 l2 l3) × ((p r : ℕ) → Simulates env o₀ m l o (k p r) (effect p r))
+  abbrev pub Looks : (env : Environment) (o₀ o : Output) → Request → Found → Type 0
+  Looks env o₀ o (halt x) i = i ≡ Err x
+  Looks env o₀ o (ask l1 l2 l3 k) i = (i ≡ Ok (finding l1 l2 l3)) × ((p r : ℕ) → Simulates env o₀ m l o (k p r) (effect p r))

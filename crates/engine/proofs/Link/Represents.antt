@@ -1,18 +1,18 @@
 -- When lent words and the machine record represent a state of the machine, and when a command on words simulates a step.
+use Rattle.std.proofs.Common.{Err, Ok}
 use Prim.Native.Nat.{◌≤◌}
 use mathlib.Core.Path.{◌≡◌}
 use lib.ListN.{length}
 use Rattle.word.specs.Lay.{laid}
-use Rattle.machine.specs.State.{State, stop_number}
+use Rattle.machine.specs.State.{State}
 use Rattle.machine.specs.Environment.{Environment}
 use Rattle.machine.specs.Step.{Outcome, stopped, stepped, stack_limit}
 use Rattle.machine.specs.Holds.{LabelsInRange}
 use Rattle.stack.specs.declared.Machine.{Machine}
-use Rattle.stack.specs.Words.{carried_out}
 use Rattle.step.specs.Lent.{Lent, After}
 use Rattle.engine.specs.Memory.{Output, room}
 use Rattle.engine.specs.Layout.{stack_words, cell_words, lines_laid}
-use Rattle.engine.specs.Act.{went, Emitted, emitted, emit_of}
+use Rattle.engine.specs.Act.{Emitted, emitted, emit_of}
 use Rattle.engine.specs.Ended.{machine_of}
 
 -- the record m and the runs l and o hold the state s, where the output space came as o₀
@@ -34,9 +34,9 @@ pub record Sound (env : Environment) (o₀ : Output) (s : State) (l : Lent) : Ty
 -- hold the next state, whose stack is laid over the stack space
 module _ (env : Environment) (o₀ : Output) (m : Machine) (l : Lent) (o : Output) where
   abbrev pub Simulates : Outcome → After → Type 0
-  Simulates (stopped x) a = (emit_of env m a.stepped o ≡ emitted (went m (stop_number x)) o) × (a.lent ≡ l)
+  Simulates (stopped x) a = (emit_of env m a.stepped o ≡ emitted (Err x) o) × (a.lent ≡ l)
   Simulates (stepped t) a =
       let e : Emitted = emit_of env m a.stepped o in
-      (e.went.stop ≡ carried_out)
-      × Represents o₀ t e.went.machine a.lent e.output
+      (e.went ≡ Ok (machine_of t))
+      × Represents o₀ t (machine_of t) a.lent e.output
       × (a.lent.stack ≡ laid (stack_words t.stack) l.stack)

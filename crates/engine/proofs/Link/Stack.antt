@@ -21,8 +21,10 @@ use Rattle.label.specs.Label.{InRange}
 use Rattle.label.specs.Word.{low_label}
 use Rattle.machine.specs.Atom.{Atom, Entry, value, frame}
 use Rattle.machine.specs.Holds.{Each, EntryHas}
+use Rattle.stack.specs.declared.Kind.{Kind}
+use Rattle.stack.specs.declared.Kind.TheVariants.{Value, Frame, Owing}
 use Rattle.stack.specs.declared.Slot.{Slot}
-use Rattle.stack.specs.Words.{machine, slot_of, nothing_there, kind_of, entry_at, slot_at, set_entry, pushed_stack, refilled_stack}
+use Rattle.stack.specs.Words.{machine, slot_of, no_slot, kind_of, entry_at, slot_at, set_entry, pushed_stack, refilled_stack}
 use Rattle.stack.specs.Words.{raised, lifted, inserted_stack}
 use Rattle.step.specs.Find.{is_value, top_values}
 use Rattle.machine.proofs.Request.{Values, none, more}
@@ -76,9 +78,9 @@ entry_read words k n label i {st} l h e = rw (rw add-zero at (read 0), read 1, r
 
 -- what stands on top
 abbrev pub top_slot : List Entry → Slot
-top_slot [] = slot_of nothing_there (pos 0) 0
-top_slot (value a ∷ es) = slot_of 0 a.number a.label
-top_slot (frame owes a ∷ es) = slot_of (choose owes 2 1) a.number a.label
+top_slot [] = no_slot
+top_slot (value a ∷ es) = slot_of Value a.number a.label
+top_slot (frame owes a ∷ es) = slot_of (choose owes Owing Frame) a.number a.label
 
 -- the entries below the top
 abbrev pub below : List Entry → List Entry
@@ -94,9 +96,9 @@ unfolding stack_words
 entry_top (value a) es h r = entry_read (stack_words es) (pos 0) a.number a.label (length es) (stack_words-length es) r.0.1 h
 entry_top (frame owes a) es {st} h r =
     entry_read (stack_words es) (frame_word owes) a.number a.label (length es) (stack_words-length es) r.0.1 h
-    ∙ ap (λ (k : ℕ). slot_of k a.number a.label) (by owes)
+    ∙ ap (λ (k : Kind). slot_of k a.number a.label) (by owes)
   where
-    by : (b : Bool) → kind_of (frame_word b) ≡ choose b 2 1
+    by : (b : Bool) → kind_of (frame_word b) ≡ choose b Owing Frame
     by true = refl
     by false = refl
 
@@ -198,7 +200,7 @@ stack-pushed pc label lines e es old {st} h room g =
 -- a value written in place of one that stood above them
 pub stack-refilled : (pc : ℤ) (label lines : ℕ) (n : ℤ) (p depth below : ℕ) (es : List Entry) {st : List ℤ}
     → length es < 256 → 768 ≤ length st → st ≡ laid (stack_words es) st
-    → length es ≡ depth - below - 1 → (slot_at st depth below).kind ≡ 0
+    → length es ≡ depth - below - 1 → (slot_at st depth below).kind ≡ Value
     → refilled_stack (machine pc label (length es) lines) st n p ≡ laid (stack_words (value (record { number = n; label = p }) ∷ es)) st
 stack-refilled pc label lines n p depth below es {st} h room held e kind =
     refill-push (machine pc label (length es) lines) st depth below n p e kind

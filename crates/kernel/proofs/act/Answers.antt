@@ -1,17 +1,8 @@
 -- `kernel::act` meets its contract.
 -- Assumes nothing.
-use Rattle.word.proofs.Signed.{back}
+use Rattle.std.proofs.Common.{rules}
 use Rattle.kernel.proofs.Acting.{residue-known}
 use Rattle.kernel.proofs.act.Goals as goal
 
 pub returns : goal.returns
-returns c =
-    let code = c.args.code in
-    let n = c.args.operand in
-    rw (
-      c.to_bits.ensures,
-      back {z = code} c.ranges.code,
-      back {z = n} c.ranges.operand,
-      residue-known code n c.ranges.code,
-    )
-    at c.choose.ensures
+returns c = rw (← residue-known c.args.code c.args.operand (search rules)) (search rules)

@@ -1,29 +1,22 @@
 -- `kernel::load` meets its contract.
 -- Assumes nothing.
-use mathlib.Core.Path.{◌≡◌, sym, ◌∙◌}
-use native.Mathlib.Omega.{arith}
-use lib.ListN.{length}
-use Rattle.word.specs.Number.{index_of}
-use Rattle.word.proofs.Signed.{back-ok}
+use Rattle.std.proofs.Common.{rules}
+use Prim.Native.Nat.{◌<◌}
+use Rattle.word.proofs.Bits.{index-found}
 use Rattle.kernel.proofs.Acting.{load-done, load-none, load-out}
-use borrow.Author.Rules.{rules}
 use Rattle.kernel.proofs.load.Goals as goal
 
-pub returns-then-depth-lt1 : goal.returns-then-depth-lt1
-returns-then-depth-lt1 c = λ stack. rw c.ended.ensures (load-none _ _ _ c.if-depth-lt1.true)
+pub offset_bounds-row-i : goal.offset_bounds-row-i
+offset_bounds-row-i c = let l : c.in_ok-i.i < 7 = search (rules, index-found) in search rules
 
-pub returns-in-At : goal.returns-in-At
-returns-in-At c =
-    let seven : length c.args.row.words ≡ 7 = search rules in
-    let found : c.below-address.result ≡ index_of c.args.s.top 7 = rw (back-ok c.args.s.top (omega (arith, c.struct_told-1.given))) at c.below-address.ensures in
-    λ stack.
-    rw (c.gone.ensures, back-ok _ c.get.type_inv, c.get.ensures)
-    (load-done _ stack _ _ c.if-depth-lt1.false (seven) (sym (found) ∙ c.in-At.is))
+pub bounds-row-i : goal.bounds-row-i
+bounds-row-i c = search (rules, index-found)
 
-pub returns-in-Outside : goal.returns-in-Outside
-returns-in-Outside c =
-    let seven : length c.args.row.words ≡ 7 = search rules in
-    let found : c.below-address.result ≡ index_of c.args.s.top 7 = rw (back-ok c.args.s.top (omega (arith, c.struct_told-1.given))) at c.below-address.ensures in
-    λ stack.
-    rw c.ended-in-Outside.ensures
-    (load-out _ stack _ c.if-depth-lt1.false (seven) (sym (found) ∙ c.in-Outside.is))
+pub returns-then-s-lt1 : goal.returns-then-s-lt1
+returns-then-s-lt1 c = search (rules, load-none)
+
+pub returns-in_err-i : goal.returns-in_err-i
+returns-in_err-i c = search (rules, load-out)
+
+pub returns : goal.returns
+returns c = search (rules, load-done)

@@ -15,7 +15,9 @@ use Rattle.program.specs.declared.Command.TheVariants.{Add, Sub, Pop, Output, Pu
 use Rattle.machine.specs.Atom.{Atom, Entry, value, Line}
 use Rattle.machine.specs.Rule.{missing, allowed, allowed_if, standard}
 use Rattle.machine.specs.Environment.{Environment, barrier}
-use Rattle.machine.specs.State.{State, Stop, overflow, stack_full}
+use Rattle.machine.specs.State.{State}
+use Rattle.machine.specs.declared.Stop.{Stop}
+use Rattle.machine.specs.declared.Stop.TheVariants.{Overflow, StackFull}
 use Rattle.machine.specs.Step.{Outcome, stepped, stack_limit, provided, unless_barred, Request, with_value, with_values, with_arguments}
 use Rattle.machine.specs.Step.{with_frame, calling}
 use Rattle.machine.specs.Step.{with_cell, of, key_of, decide, consult, making, outputting, request, execute, atom, branch, storing}
@@ -88,7 +90,7 @@ making-shows : (S : ℕ) (c : Command) (s : State) (f : ℤ → ℤ → ℤ)
 making-shows S c s f e =
     values-shows S c s _ s.stack _ _ (λ a b rest.
     rw (e a b)
-    (provided-shows S (is_signed 64 (f a.number b.number)) overflow _ _
+    (provided-shows S (is_signed 64 (f a.number b.number)) Overflow _ _
     (rw (see-one S increment s.pc, see-both S f a b))))
 
 -- a line on a page, labelled by the join of the value's label and the place's
@@ -122,7 +124,7 @@ act-shows S env Sub s = making-shows S Sub s ◌-ℤ◌ (λ a b. refl)
 act-shows S env Pop s = value-shows S Pop s _ s.stack _ _ (λ a rest. rw (see-one S increment s.pc))
 act-shows S env Output s = outputting-shows S env Output s (pos 0) (λ a. refl)
 act-shows S env (Push n) s =
-    provided-shows S (ltb (length s.stack) stack_limit) stack_full _ _ (rw (see-one S increment s.pc, see-bottom S n))
+    provided-shows S (ltb (length s.stack) stack_limit) StackFull _ _ (rw (see-one S increment s.pc, see-bottom S n))
 act-shows S env Load s =
     value-shows S Load s _ s.stack _ _ (λ a rest. cell-shows S Load s s.memory a.number _ _ (λ i c e at.
     rw (see-one S increment s.pc, see-both S second a c, see-cell S a e at)))

@@ -1,13 +1,13 @@
 -- What a reader sees of a state, its view, and the machine on views: each command does to a view what it does to a
 -- state, as far as that is seen.
 -- Assumes nothing.
+use Rattle.std.proofs.Common.{None, Option, Some}
 use mathlib.Core.List.{List, [], ◌∷◌, ◌++◌, map}
 use Prim.Native.Nat.{ℕ, zero, suc}
 use lib.IntN.{ℤ, pos, negsuc, ◌+ℤ◌, ◌-ℤ◌}
 use lib.ListN.{length, set}
 use lib.Dec.{ltb}
 use mathlib.Core.Bool.{Bool, true, false}
-use mathlib.Core.Option.{Option, none, some}
 use Rattle.word.specs.Choose.{choose}
 use Rattle.label.specs.Label.{bottom}
 use Rattle.program.specs.declared.Command.{Command}
@@ -180,8 +180,8 @@ abbrev pub trim : View → View
 trim v = record { pc = v.pc; stack = cut_at v.pc v.stack; memory = v.memory; lines = v.lines }
 
 abbrev pub act_some : Option Command → View → View
-act_some none v = v
-act_some (some c) v = act c v
+act_some None v = v
+act_some (Some c) v = act c v
 
 -- the end line
 abbrev pub close : View → View

@@ -1,6 +1,7 @@
 -- The machine on views: while the place is not seen, a command leaves the trimmed view or returns to the frame on top of
 -- it; and moves only add lines.
 -- Assumes nothing.
+use Rattle.std.proofs.Common.{None, Option, Some}
 use mathlib.Core.Path.{◌≡◌, refl, ◌∙◌}
 use mathlib.Core.Logic.{◌⊎◌, inl, inr}
 use mathlib.Core.Bool.{Bool, true, false}
@@ -10,7 +11,6 @@ use lib.Seq.{take-append_seam}
 use lib.IntN.{ℤ, pos}
 use lib.ListN.{length}
 use Rattle.word.specs.Choose.{choose}
-use mathlib.Core.Option.{Option, none, some}
 use Rattle.program.specs.declared.Command.{Command}
 use Rattle.program.specs.Command.{arguments_of, results_of}
 use Rattle.program.specs.declared.Command.TheVariants.{Add, Sub, Pop, Output, Push, Load, Store, Jump, Bnz, Call, Ret, OutputTo, CallN, RetV}
@@ -110,8 +110,8 @@ module _ (es : List Slot) (cells : List Seen) (ls : List Line) where
 -- what holds of a view and of what each command and the end make of it holds of what the place makes of it
 module _ (P : View → Type 0) (v : View) (stays : P v) (closes : P (close v)) (acts : (c : Command) → P (act c v)) where
   some-all : (o : Option Command) → P (act_some o v)
-  some-all none = stays
-  some-all (some c) = acts c
+  some-all None = stays
+  some-all (Some c) = acts c
 
   at_all : (cs : List Command) (z : ℤ) → P (act_at cs z v)
   at_all cs z = go (at_end (length cs) z)

@@ -1,78 +1,55 @@
 -- `plain::execute` meets its contract: refused, nothing is written; accepted, the loop's run is the machine's.
 -- Assumes nothing.
+use Rattle.std.proofs.Common.{Ok}
+use Rattle.std.proofs.lemmas.Result.{err_from_is_err_and}
 use native.Mathlib.Omega.{arith}
-use mathlib.Core.Path.{◌≡◌, ◌∙◌, sym, ap}
-use Prim.Native.Nat.{ℕ}
-use mathlib.Core.List.{List}
-use lib.ListN.{length}
+use mathlib.Core.Path.{◌≡◌, ◌∙◌, ap₂}
 use Rattle.word.specs.Field.{Bytes}
-use Rattle.program.specs.declared.Command.{Command}
-use Rattle.program.specs.declared.Checked.TheVariants as Checked
-use Rattle.program.specs.Decode.{accepted, check_answer}
-use Rattle.program.proofs.Loading.{written-accepted}
+use Rattle.program.specs.Decode.{check_answer}
 use Rattle.machine.specs.Rule.{standard, fixed}
-use Rattle.machine.proofs.Holds.{standard-range}
 use Rattle.step.specs.Lent.{cells, lent}
-use Rattle.engine.specs.Memory.{output, Memory, memory}
-use Rattle.engine.specs.Start.{none_own}
+use Rattle.engine.specs.Memory.{Memory, output, memory}
 use Rattle.engine.specs.Loop.{done}
-use Rattle.engine.specs.Ended.{engine_of}
-use Rattle.engine.proofs.Accepted.{Fine, answer, start_fine, refused-is, taken, few, loop-whole}
-use Rattle.plain.specs.Ruler.{standard_ruler}
+use Rattle.engine.specs.Start.{none_own}
+use Rattle.engine.proofs.Accepted.{answer, refused-is}
 use Rattle.plain.specs.Plain.{plain}
-use Rattle.plain.proofs.Following.{standard-follows}
+use Rattle.plain.proofs.Running.{loop_needs, run_is}
 use borrow.Author.Rules.{rules}
 use Rattle.plain.proofs.execute.Goals as goal
+use Rattle.plain.proofs.execute.Goals.{In_ok-count}
 
--- the clearances are sixteen words
-pub slice_bounds-go-end : goal.slice_bounds-go-end
-slice_bounds-go-end c =
-    search (rules, c.well_formed.1.1.1.0)
+-- the lent runs as they came, and a count of commands, which the start answered
+abbrev came : In_ok-count → Memory
+came c =
+    let a = c.args in
+    memory a.program.now (lent a.stack.now (cells a.values.now a.labels.now))
+    (output a.numbers.now a.line_labels.now a.kinds.now a.pages.now)
+
+checked : (c : In_ok-count)
+    → Ok c.in_ok-count.count ≡ check_answer (answer c.args.sheet.now c.args.clearances (came c) c.args.fuel none_own)
+checked c = rw c.none.ensures at c.in_ok-count.ensures
 
 pub go-ran-requires : goal.go-ran-requires
 go-ran-requires c =
-    let count : ℕ = c.in-Accepted.count in
-    let lent_memory : Memory = memory c.args.program.now (lent c.args.stack.now (cells c.args.values.now c.args.labels.now))
-    (output c.args.numbers.now c.args.line_labels.now c.args.kinds.now c.args.pages.now) in
-    let checked : Checked.Accepted count ≡ check_answer (answer c.args.sheet.now c.args.clearances (lent_memory) c.args.fuel none_own) = rw c.none.ensures at (sym c.in-Accepted.is ∙ c.check-checked.ensures) in
-    let commands : List Command = (taken c.args.sheet.now c.args.clearances (lent_memory) c.args.fuel none_own count checked).0 in
-    let same_count : count ≡ length commands = (taken c.args.sheet.now c.args.clearances (lent_memory) c.args.fuel none_own count checked).2 in
     let bytes : Bytes c.args.sheet.now = λ i. omega (arith, c.type_inv.sheet i) in
-    let accepts : answer c.args.sheet.now c.args.clearances (lent_memory) c.args.fuel none_own ≡ accepted commands = (taken c.args.sheet.now c.args.clearances (lent_memory) c.args.fuel none_own count checked).1 in
-    let fine : Fine c.args.sheet.now c.args.clearances (lent_memory) c.args.fuel none_own commands = start_fine c.args.sheet.now c.args.clearances (lent_memory) c.args.fuel none_own commands accepts in (
-      rw (same_count) (few _ c.args.clearances (lent_memory) _ none_own (bytes) (commands) (fine)),
-      rw (same_count) (omega (arith, (fine).program, c.write.auto.space)),
-      (fine).stack,
-      (fine).many,
-      (fine).equal,
-    )
+    let i : In_ok-count = (goal.at.go-ran-requires c).In_ok-count in
+    loop_needs _ _ (came i) _ _ bytes (checked i) _ c.write.auto.space
 
-pub returns-in-Refused : goal.returns-in-Refused
+pub returns-in_err-count : goal.returns-in_err-count
 unfolding plain
-returns-in-Refused c =
-    let lent_memory : Memory = memory c.args.program.now (lent c.args.stack.now (cells c.args.values.now c.args.labels.now))
-    (output c.args.numbers.now c.args.line_labels.now c.args.kinds.now c.args.pages.now) in
-    refused-is c.args.sheet.now c.args.clearances (lent_memory) c.args.fuel none_own (fixed standard) tt c.in-Refused.r
-    (rw c.none.ensures at (sym c.in-Refused.is ∙ c.check-checked.ensures))
+returns-in_err-count c =
+    let a = c.args in
+    let p = err_from_is_err_and c.from_residual.result c.from_residual.ensures.1 in
+    rw (p.1, p.2)
+    (refused-is a.sheet.now a.clearances
+    (memory a.program.now (lent a.stack.now (cells a.values.now a.labels.now))
+    (output a.numbers.now a.line_labels.now a.kinds.now a.pages.now))
+    a.fuel none_own (fixed standard) tt _
+    (rw c.none.ensures at c.in_err-count.ensures))
 
-pub returns-in-Accepted : goal.returns-in-Accepted
-unfolding plain
-returns-in-Accepted c =
-    let lent_memory : Memory = memory c.args.program.now (lent c.args.stack.now (cells c.args.values.now c.args.labels.now))
-    (output c.args.numbers.now c.args.line_labels.now c.args.kinds.now c.args.pages.now) in
-    let count : ℕ = c.in-Accepted.count in
-    let checked : Checked.Accepted count ≡ check_answer (answer c.args.sheet.now c.args.clearances (lent_memory) c.args.fuel none_own) = rw c.none.ensures at (sym c.in-Accepted.is ∙ c.check-checked.ensures) in
-    let commands : List Command = (taken c.args.sheet.now c.args.clearances (lent_memory) c.args.fuel none_own count checked).0 in
-    let accepts : answer c.args.sheet.now c.args.clearances (lent_memory) c.args.fuel none_own ≡ accepted commands = (taken c.args.sheet.now c.args.clearances (lent_memory) c.args.fuel none_own count checked).1 in
-    let fine : Fine c.args.sheet.now c.args.clearances (lent_memory) c.args.fuel none_own commands = start_fine c.args.sheet.now c.args.clearances (lent_memory) c.args.fuel none_own commands accepts in
+pub returns : goal.returns
+returns c =
     let bytes : Bytes c.args.sheet.now = λ i. omega (arith, c.type_inv.sheet i) in
-    let same_count : count ≡ length commands = (taken c.args.sheet.now c.args.clearances (lent_memory) c.args.fuel none_own count checked).2 in
-    let m = lent_memory in
-    let written =
-    c.write.ensures ∙ written-accepted c.args.sheet.now (commands) c.args.program.now (fine).decoded
-    (fine).program in
-    loop-whole c.args.sheet.now c.args.clearances m c.args.fuel none_own (bytes) (commands) (fine) standard_ruler (fixed standard)
-    standard-follows (λ u. standard-range) tt (count) (same_count) c.write.new.space written
-    (done c.go-ran.result tt (lent c.go-ran.new.stack (cells c.go-ran.new.values c.go-ran.new.labels)) (output c.go-ran.new.numbers c.go-ran.new.line_labels c.go-ran.new.kinds c.go-ran.new.pages))
-    (rw c.room-room.ensures at c.go-ran.ensures)
-    ∙ sym (ap (λ d. engine_of (fixed standard) d tt c.args.clearances m c.args.fuel) (accepts))
+    run_is _ _ _ _ _ bytes (checked (goal.at.returns c).In_ok-count) _ c.write.ensures _
+    (ap₂ (λ cells lines. done c.go-ran.result tt (lent c.go-ran.new.stack cells) lines) (search rules) (search rules)
+    ∙ (rw c.room.ensures at c.go-ran.ensures.done))

@@ -1,15 +1,9 @@
 -- `report::run` meets its contract: the tag engine's end gives the text.
 -- Assumes nothing.
-use mathlib.Core.Path.{◌≡◌, ◌∙◌, sym, subst, ap, ap₂}
-use mathlib.Core.List.{List}
-use Prim.Native.Nat.{ℕ}
-use native.Mathlib.Omega.{arith}
-use lib.IntN.{ℤ, pos}
+use Rattle.std.proofs.Common.{Err, Ok, ◌≡◌, ◌∙◌, sym, subst, ap, ap₂, arith, ℕ, ℤ, pos, List}
 use lib.ListN.{length-replicate}
-use Rattle.word.specs.Field.{Bytes}
-use Rattle.step.specs.Lent.{cells, lent}
+use Rattle.step.specs.Lent.{Cells, cells, lent}
 use Rattle.engine.specs.declared.Clearances.{Clearances}
-use Rattle.engine.specs.declared.Answer.TheVariants.{Refused, Stopped}
 use Rattle.engine.specs.Memory.{output, memory}
 use Rattle.policy.specs.Standard.{standard_bytes}
 use Rattle.tagged.specs.Tagged.{Left, left, ended_by, tagged}
@@ -18,65 +12,45 @@ use Rattle.report.specs.Page.{zeros, lent_for, handler_space, end_for}
 use Rattle.report.proofs.Pages.{end-pages}
 use Rattle.report.proofs.Paging.{run-written}
 use Rattle.report.proofs.run.Goals as goal
+use Rattle.report.proofs.run.Goals.{After-execute-ended}
+
+-- the tag engine's end
+abbrev last : (c : After-execute-ended) → Left
+last c =
+    let x = c.execute-ended.new in
+    left
+    (ended_by c.execute-ended.result
+    (memory x.program (lent x.stack (cells x.values x.labels)) (output x.numbers x.line_labels x.kinds x.pages)))
+    x.handler
+
+abbrev given : (c : After-execute-ended) → Cells
+given c = cells c.args.values.now c.args.labels.now
+
+ends : (c : After-execute-ended) → last c ≡ end_for (given c) c.args.allowance c.args.sheet.now
+ends c =
+    let run : List ℕ → List ℤ → Clearances → Left =
+    λ t row k. tagged c.args.sheet.now t row k (lent_for (given c)) handler_space c.args.allowance in
+    c.execute-ended.ensures.left
+    ∙ ap₂ (λ t row. run t row c.all.result) c.bytes-table.ensures c.empty.ensures
+    ∙ ap (run standard_bytes (zeros 7)) c.all.ensures
 
 pub refused-requires : goal.refused-requires
 refused-requires c = omega (arith, c.requires)
 
 pub lines-requires : goal.lines-requires
 lines-requires c =
-    let last : Left = left
-    (ended_by c.execute-ended.result
-    (memory c.execute-ended.new.program (lent c.execute-ended.new.stack (cells c.execute-ended.new.values c.execute-ended.new.labels))
-    (output c.execute-ended.new.numbers c.execute-ended.new.line_labels c.execute-ended.new.kinds c.execute-ended.new.pages)))
-    c.execute-ended.new.handler in
-    let labels : List ℤ = c.args.labels.now in
-    let values : List ℤ = c.args.values.now in
-    let sheet : List ℕ = c.args.sheet.now in
-    let ends : last ≡ end_for (cells values labels) c.args.allowance sheet = let run : List ℕ → List ℤ → Clearances → Left =
-    λ t row k. tagged sheet t row k (lent_for (cells values labels)) handler_space c.args.allowance in
-    c.execute-ended.ensures.left
-    ∙ ap₂ (λ t row. run t row c.all.result) c.bytes-table.ensures c.empty.ensures
-    ∙ ap (run standard_bytes (zeros 7)) c.all.ensures in
-    let octets : Bytes sheet = λ i. omega (arith, c.type_inv.sheet i) in (
-      omega (arith, c.execute-ended.auto.numbers, length-replicate 1024 (pos 0), c.requires),
-      subst (λ (x : Left). PageWords x.ended.memory.output.pages) (sym (ends))
-          (end-pages (cells (values) (labels)) c.args.allowance (sheet) (octets)),
+    let d = (goal.at.lines-requires c).After-execute-ended in (
+      omega (arith, c.execute-ended.auto.pages, length-replicate 1024 (pos 0), c.requires),
+      subst (λ (x : Left). PageWords x.ended.memory.output.pages) (sym (ends d))
+          (end-pages (given d) c.args.allowance c.args.sheet.now (λ i. omega (arith, c.type_inv.sheet i))),
     )
 
-pub returns-in-Refused : goal.returns-in-Refused
-returns-in-Refused c =
-    let values : List ℤ = c.args.values.now in
-    let labels : List ℤ = c.args.labels.now in
-    let sheet : List ℕ = c.args.sheet.now in
-    let last : Left = left
-    (ended_by c.execute-ended.result
-    (memory c.execute-ended.new.program (lent c.execute-ended.new.stack (cells c.execute-ended.new.values c.execute-ended.new.labels))
-    (output c.execute-ended.new.numbers c.execute-ended.new.line_labels c.execute-ended.new.kinds c.execute-ended.new.pages)))
-    c.execute-ended.new.handler in
-    let ends : last ≡ end_for (cells values labels) c.args.allowance sheet = let run : List ℕ → List ℤ → Clearances → Left =
-    λ t row k. tagged sheet t row k (lent_for (cells values labels)) handler_space c.args.allowance in
-    c.execute-ended.ensures.left
-    ∙ ap₂ (λ t row. run t row c.all.result) c.bytes-table.ensures c.empty.ensures
-    ∙ ap (run standard_bytes (zeros 7)) c.all.ensures in
-    let a = c.args in
-    run-written (cells (values) (labels)) a.allowance a.reader.0 (sheet) (last) (ends)
-    a.out.now c.refused.result c.refused.new.out (Refused c.in-Refused.r) c.in-Refused.is c.refused.ensures
+pub returns-in-Err : goal.returns-in-Err
+returns-in-Err c =
+    let d = (goal.at.returns-in-Err c).After-execute-ended in
+    run-written (given d) _ _ _ (last d) (ends d) _ _ _ (Err c.in-Err.r) c.in-Err.is c.refused.ensures
 
-pub returns-in-Stopped : goal.returns-in-Stopped
-returns-in-Stopped c =
-    let values : List ℤ = c.args.values.now in
-    let labels : List ℤ = c.args.labels.now in
-    let sheet : List ℕ = c.args.sheet.now in
-    let last : Left = left
-    (ended_by c.execute-ended.result
-    (memory c.execute-ended.new.program (lent c.execute-ended.new.stack (cells c.execute-ended.new.values c.execute-ended.new.labels))
-    (output c.execute-ended.new.numbers c.execute-ended.new.line_labels c.execute-ended.new.kinds c.execute-ended.new.pages)))
-    c.execute-ended.new.handler in
-    let ends : last ≡ end_for (cells values labels) c.args.allowance sheet = let run : List ℕ → List ℤ → Clearances → Left =
-    λ t row k. tagged sheet t row k (lent_for (cells values labels)) handler_space c.args.allowance in
-    c.execute-ended.ensures.left
-    ∙ ap₂ (λ t row. run t row c.all.result) c.bytes-table.ensures c.empty.ensures
-    ∙ ap (run standard_bytes (zeros 7)) c.all.ensures in
-    let a = c.args in
-    run-written (cells (values) (labels)) a.allowance a.reader.0 (sheet) (last) (ends)
-    a.out.now c.lines.result c.lines.new.out (Stopped c.in-Stopped.ran) c.in-Stopped.is c.lines.ensures
+pub returns-in-Ok : goal.returns-in-Ok
+returns-in-Ok c =
+    let d = (goal.at.returns-in-Ok c).After-execute-ended in
+    run-written (given d) _ _ _ (last d) (ends d) _ _ _ (Ok c.in-Ok.ran) c.in-Ok.is c.lines.ensures

@@ -1,39 +1,36 @@
 -- `tables::read_rule_with` meets its contract: three expressions, each at fault or read.
 -- Assumes nothing.
-use mathlib.Core.Path.{◌∙◌, sym}
-use Rattle.tables.specs.Value.{key_of}
-use Rattle.tables.proofs.RuleReading.{rule-condition, rule-place, rule-result}
+use Rattle.std.proofs.lemmas.Result.{err_from_is_err_and}
+use Rattle.tables.specs.Value.{asked_key}
+use Rattle.tables.proofs.RuleReading.{rule-condition, rule-place, rule-last, rule-whole}
 use Rattle.tables.proofs.read_rule_with.Goals as goal
 
-pub returns-in-Fault : goal.returns-in-Fault
-returns-in-Fault c =
+pub returns-in_err-allowed : goal.returns-in_err-allowed
+returns-in_err-allowed c =
     let a = c.args in
-    λ o. rule-condition (key_of o a.supplied a.labels) a.supplied a.res a.bytes.now a.at
-    c.in-Fault.fault (sym (c.read_condition-allowed.ensures o) ∙ c.in-Fault.is)
+    let p = err_from_is_err_and c.from_residual.result c.from_residual.ensures.1 in
+    λ o. rw (p.1, p.2)
+    (rule-condition (asked_key o a.asked) a.asked.supplied a.has a.bytes.now a.at _ (c.in_err-allowed.ensures o))
 
-pub returns-in-Fault-place : goal.returns-in-Fault-place
-returns-in-Fault-place c =
+pub returns-in_err-place : goal.returns-in_err-place
+returns-in_err-place c =
     let a = c.args in
-    λ o. rule-place (key_of o a.supplied a.labels) a.supplied a.res a.bytes.now a.at c.in-Is.yes
-    c.in-Is.at2
-    (sym (c.read_condition-allowed.ensures o) ∙ c.in-Is.is)
-    c.in-Fault-place.fault (sym (c.read_label-place.ensures o) ∙ c.in-Fault-place.is)
+    let p = err_from_is_err_and c.from_residual-in_err-place.result c.from_residual-in_err-place.ensures.1 in
+    λ o. rw (p.1, p.2)
+    (rule-place (asked_key o a.asked) a.asked.supplied a.has a.bytes.now a.at
+    _ _ (c.in_ok-allowed.ensures o) _ (c.in_err-place.ensures o))
 
-pub returns-in-Fault-last : goal.returns-in-Fault-last
-returns-in-Fault-last c =
+pub returns-in_err-result : goal.returns-in_err-result
+returns-in_err-result c =
     let a = c.args in
-    λ o. rule-result (key_of o a.supplied a.labels) a.supplied a.res a.bytes.now a.at c.in-Is.yes
-    c.in-Is.at2
-    (sym (c.read_condition-allowed.ensures o) ∙ c.in-Is.is)
-    c.in-Is-place.p c.in-Is-place.at3 (sym (c.read_label-place.ensures o) ∙ c.in-Is-place.is)
-    _ (sym (c.read_result-last.ensures o) ∙ c.in-Fault-last.is)
+    let p = err_from_is_err_and c.from_residual-in_err-result.result c.from_residual-in_err-result.ensures.1 in
+    λ o. rw (p.1, p.2)
+    (rule-last (asked_key o a.asked) a.asked.supplied a.has a.bytes.now a.at
+    _ _ (c.in_ok-allowed.ensures o) _ _ (c.in_ok-place.ensures o) _ (c.in_err-result.ensures o))
 
-pub returns-in-Is-last : goal.returns-in-Is-last
-returns-in-Is-last c =
+pub returns : goal.returns
+returns c =
     let a = c.args in
-    λ o. rw c.verdict_if.ensures
-    (rule-result (key_of o a.supplied a.labels) a.supplied a.res a.bytes.now a.at c.in-Is.yes
-    c.in-Is.at2
-    (sym (c.read_condition-allowed.ensures o) ∙ c.in-Is.is)
-    c.in-Is-place.p c.in-Is-place.at3 (sym (c.read_label-place.ensures o) ∙ c.in-Is-place.is)
-    _ (sym (c.read_result-last.ensures o) ∙ c.in-Is-last.is))
+    λ o. rw c.then_some.ensures
+    (rule-whole (asked_key o a.asked) a.asked.supplied a.has a.bytes.now a.at
+    _ _ (c.in_ok-allowed.ensures o) _ _ (c.in_ok-place.ensures o) _ _ (c.in_ok-result.ensures o))

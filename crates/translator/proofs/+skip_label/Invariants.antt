@@ -1,4 +1,4 @@
--- The measure of the cycle of calls {skip_label}: the depth.
+-- The measure of `translator::skip_label`: the depth.
 use Rattle.translator.proofs.+skip_label.Given as goal
 
 abbrev pub decreases-skip_label : goal.decreases-skip_label

@@ -1,17 +1,14 @@
 -- Reading numbers from text: what the loop over digits keeps, and that a number kept up to 10^19 is read as the number itself.
 -- Assumes nothing.
-use Rattle.std.proofs.Common.{◌≡◌, ℕ, zero, suc, ◌+◌, ◌-◌, ◌*◌, ◌^◌, ◌<◌, ◌≤◌, Bool, true, false, eqb, ltb, leb, List, [], ◌∷◌, map, length, get_or, drop, pos, negsuc, sym, refl, ap, ◌∙◌, add_comm, arith, drop_of_length-le, drop-cons, ltb-false, ltb-true, le-ltb, lt-ltb, eq-eqb, ne_eqb, eqb-true, le-leb, leb-true}
+use Rattle.std.proofs.Common.{◌≡◌, ℕ, zero, suc, ◌+◌, ◌-◌, ◌*◌, ◌^◌, ◌<◌, ◌≤◌, Bool, true, false, eqb, ltb, leb, List, [], ◌∷◌, map, length, get_or, drop, pos, negsuc, sym, refl, ap, ◌∙◌, add_comm, zero-add, ◌+ℤ◌, ◌-ℤ◌, arith, drop_of_length-le, drop-cons, ltb-false, ltb-true, le-ltb, lt-ltb, eq-eqb, ne_eqb, eqb-true, le-leb, leb-true, None}
 use mathlib.Core.List.{reverse_aux}
 use lib.ListN.{get_or-eq_default}
-use borrow.Author.Tests.{lt-leb}
 use Rattle.word.specs.Choose.{choose}
 use Rattle.word.specs.Digits.{value_of}
 use Rattle.word.specs.Exact.{exactly}
 use Rattle.word.specs.Text.{digit_value, numeral_value}
 use Rattle.word.specs.Numeral.{is_digit, all_digits, signed_by, leading_digits, decimal_to, decimal_from}
 use Rattle.word.specs.Numeral.{capped, capped_more, capped_digits, capped_decimal}
-use Rattle.word.specs.declared.exact.Exact.{Exact}
-use Rattle.word.specs.declared.numeral.Decimal.TheVariants.{Missing}
 use Rattle.word.proofs.Bool.{and_first, and_second}
 
 -- ════════════════════════════════════════════════════════════════════════════════════════════
@@ -20,12 +17,6 @@ use Rattle.word.proofs.Bool.{and_first, and_second}
 
 pub digit-is : (c : ℕ) → 48 ≤ c → c ≤ 57 → is_digit c ≡ true
 digit-is c h k = rw (le-leb 48 c h, le-leb c 57 k)
-
-pub digit-below : (c : ℕ) → c < 48 → is_digit c ≡ false
-digit-below c h = rw (lt-leb 48 c h)
-
-pub digit-above : (c : ℕ) → 57 < c → is_digit c ≡ false
-digit-above c h = rw (le-leb 48 c (omega arith), lt-leb c 57 h)
 
 digit-bounds : (c : ℕ) → is_digit c ≡ true → (48 ≤ c) × (c ≤ 57)
 digit-bounds c e = (leb-true 48 c (and_first (leb 48 c) (leb c 57) e), leb-true c 57 (and_second (leb 48 c) (leb c 57) e))
@@ -147,27 +138,22 @@ module _ (s : List ℕ) (at v i : ℕ) (k : Keeps s at v i) where
 -- A number with its sign
 -- ════════════════════════════════════════════════════════════════════════════════════════════
 
-pub exact-plus : (n : ℕ) → n < 2 ^ 63 → exactly (signed_by false n) ≡ Exact.Number (pos n)
-unfolding exactly
-exact-plus n h = rw (lt-ltb n (2 ^ 63) h)
-
-pub beyond-plus : (n : ℕ) → 2 ^ 63 ≤ n → exactly (signed_by false n) ≡ Exact.Outside
+pub beyond-plus : (n : ℕ) → 2 ^ 63 ≤ n → exactly (signed_by false n) ≡ None
 unfolding exactly
 beyond-plus n h = rw (le-ltb n (2 ^ 63) h)
 
-pub exact_below : (n : ℕ) → 0 < n → n ≤ 2 ^ 63 → exactly (signed_by true n) ≡ Exact.Number (negsuc (n - 1))
-unfolding exactly
-exact_below zero p h = absurd (omega arith)
-exact_below (suc n) p h = let e : suc n - 1 ≡ n = omega arith in rw (e, lt-ltb n (2 ^ 63) (omega arith))
-
-pub beyond-minus : (n : ℕ) → 2 ^ 63 < n → exactly (signed_by true n) ≡ Exact.Outside
+pub beyond-minus : (n : ℕ) → 2 ^ 63 < n → exactly (signed_by true n) ≡ None
 unfolding exactly
 beyond-minus zero h = absurd (omega arith)
 beyond-minus (suc n) h = rw (le-ltb n (2 ^ 63) (omega arith))
 
-pub exact_none : exactly (signed_by true 0) ≡ Exact.Number (pos 0)
-unfolding exactly
-exact_none = refl
+-- the number, as the kit's sums with an unsigned one give it
+pub minus-size : (n : ℕ) → pos 0 -ℤ pos n ≡ signed_by true n
+minus-size zero = refl
+minus-size (suc n) = rw (le-leb 1 (suc n) (omega arith)) (ap negsuc (omega arith))
+
+pub plus-size : (n : ℕ) → pos 0 +ℤ pos n ≡ signed_by false n
+plus-size n = ap pos (zero-add n)
 
 -- from 10^19 on no number is a word
 capped-exact : (minus : Bool) (n : ℕ) → exactly (signed_by minus (capped n)) ≡ exactly (signed_by minus n)
@@ -186,22 +172,6 @@ decimal-kept minus at [] = rw (eq-eqb (at + 0) at (omega arith))
 decimal-kept minus at (d ∷ ds) =
     rw (ne_eqb (at + length (d ∷ ds)) at (λ e. omega arith))
     (ap (decimal_to (at + length (d ∷ ds))) (capped-exact minus (numeral_value 10 (d ∷ ds))))
-
-module _ (at n next : ℕ) where
-  pub decimal-missing : (minus : Bool) → next ≡ at → Missing ≡ capped_decimal minus at n next
-  decimal-missing minus e = rw (eq-eqb next at e)
-
-  decimal-some : (minus : Bool) (x : Exact) → (next ≡ at → ⊥) → exactly (signed_by minus n) ≡ x
-      → decimal_to next x ≡ capped_decimal minus at n next
-  decimal-some minus x h e = rw (ne_eqb next at h, e)
-
-  pub minus_is : (m : Bool) → m ≡ true → (x : Exact) → (next ≡ at → ⊥) → exactly (signed_by true n) ≡ x
-      → decimal_to next x ≡ capped_decimal m at n next
-  minus_is m b x h e = rw b (decimal-some true x h e)
-
-  pub plus-is : (m : Bool) → m ≡ false → (x : Exact) → (next ≡ at → ⊥) → exactly (signed_by false n) ≡ x
-      → decimal_to next x ≡ capped_decimal m at n next
-  plus-is m b x h e = rw b (decimal-some false x h e)
 
 -- a minus stands within the text
 pub minus-within : (s : List ℕ) (at : ℕ) → eqb (get_or s at 0) 45 ≡ true → at < length s

@@ -1,16 +1,9 @@
--- Tests of numbers: what one that a call made has shown, and two with the same outcome; whether two words are the same.
+-- Tests of numbers: two with the same outcome; whether two words are the same.
 -- Assumes nothing.
-use Rattle.std.proofs.Common.{◌≡◌, ℕ, ◌+◌, ◌-◌, ◌<◌, ◌≤◌, Bool, true, false, leb, ℤ, pos, negsuc, sym, refl, ap, ◌∙◌, arith, eq-eqb, eqb-true, le-leb, leb-false, leb-true}
+use Rattle.std.proofs.Common.{◌≡◌, ℕ, ◌+◌, ◌-◌, ◌≤◌, Bool, true, false, leb, ℤ, pos, negsuc, sym, refl, ap, arith, eq-eqb, eqb-true, le-leb, leb-false, leb-true}
 use borrow.Author.Tests.{lt-leb}
 use Rattle.word.specs.Number.{same_word}
 use Rattle.word.proofs.Bool.{never}
-
--- a test t of a and b was passed, or failed
-pub leb-passed : (a b : ℕ) {t : Bool} → t ≡ leb a b → t ≡ true → a ≤ b
-leb-passed a b e h = leb-true a b (sym e ∙ h)
-
-pub leb-failed : (a b : ℕ) {t : Bool} → t ≡ leb a b → t ≡ false → b < a
-leb-failed a b e h = leb-false a b (sym e ∙ h)
 
 -- a sum is tested by a difference
 pub leb-shift : (a b c : ℕ) → b ≤ c → leb a (c - b) ≡ leb (a + b) c

@@ -1,12 +1,12 @@
 -- Words of 64 bits as the code forms them from their bits, and the bits from them.
 -- Assumes nothing.
-use Rattle.std.proofs.Common.{◌≡◌, ℕ, zero, suc, ◌+◌, ◌-◌, ◌*◌, ◌%◌, ◌^◌, ◌<◌, ◌≤◌, Bool, true, false, ltb, ℤ, pos, negsuc, ◌-ℤ◌, nat_abs, sym, refl, ap, ◌∙◌, mod-eq_of_lt, arith, pow_mono, to_z-of_z, w64, SFits, to_z, of_z, ltb-true, le-ltb}
+use Rattle.std.proofs.Common.{◌≡◌, ℕ, zero, suc, ◌-◌, ◌*◌, ◌%◌, ◌^◌, ◌<◌, ◌≤◌, Bool, true, false, ltb, ℤ, pos, negsuc, ◌-ℤ◌, sym, refl, ap, ◌∙◌, mod-eq_of_lt, arith, pow_mono, to_z-of_z, w64, SFits, to_z, of_z, ltb-true, le-ltb}
 use lib.Signed.{mag, lt_z}
 use lib.Pow.{pow-lt}
 use mir.Val.{sel}
 use mir.Facts.{to_z_pos}
 use Rattle.word.specs.Wrap.{Signed, residue, half, signed}
-use Rattle.word.proofs.Laws.Wrap.{pow-half, signed_lower, signed-upper}
+use Rattle.word.proofs.Laws.Wrap.{pow-half, signed-upper}
 
 -- ════════════════════════════════════════════════════════════════════════════════════════════
 -- The kit's reading of 64 bits is that of Wrap
@@ -57,10 +57,6 @@ below-back m h = to_z-of_z (below-fits m h) ∙ below_word m h
 
 -- the number of k bits b, from a word in each half
 module _ (k b : ℕ) (p : 0 < k) (h : k ≤ 64) where
-  pub lower-signed : b < top k → to_z w64 b ≡ signed k b
-  lower-signed l =
-      to_z_pos w64 (omega (arith, top-word k p h)) ∙ sym (signed_lower k b (rw (top-half k p h) at l))
-
   module _ (l : b < 2 ^ k) (u : top k ≤ b) where
     upper : ((top k - 1) - (b - top k) ≡ 2 ^ k - suc b) × (2 ^ k - suc b < 2 ^ 63)
     upper = let e = pow-half k p in let f = top-half k p h in let g = top-word k p h in (omega arith, omega arith)
@@ -68,7 +64,7 @@ module _ (k b : ℕ) (p : 0 < k) (h : k ≤ 64) where
     upper-negative : negsuc 0 -ℤ to_z w64 ((top k - 1) - (b - top k)) ≡ negsuc (2 ^ k - suc b)
     upper-negative = rw (upper.0, to_z_pos w64 upper.1) (minus_one (2 ^ k - suc b))
 
-    pub upper_fits : SFits w64 (negsuc 0 -ℤ to_z w64 ((top k - 1) - (b - top k)))
+    upper_fits : SFits w64 (negsuc 0 -ℤ to_z w64 ((top k - 1) - (b - top k)))
     upper_fits = rw upper-negative (record { sfits = upper.1 })
 
     pub upper-signed : to_z w64 (of_z w64 (negsuc 0 -ℤ to_z w64 ((top k - 1) - (b - top k)))) ≡ signed k b
@@ -93,24 +89,3 @@ module _ (z : ℤ) (f : SFits w64 z) where
 
     pub flip-back : to_z w64 (of_z w64 (negsuc 0 -ℤ to_z w64 (of_z w64 z))) ≡ pos (mag z)
     flip-back = to_z-of_z flip-fits ∙ flip-word
-
-    pub flip-residue : 2 ^ 64 - 1 - mag z ≡ residue 64 z
-    flip-residue = by z f (rw (to_z-of_z f) at e)
-      where
-        by : (z : ℤ) → SFits w64 z → lt_z z (pos 0) ≡ true → 2 ^ 64 - 1 - mag z ≡ residue 64 z
-        by (pos n) f e = absurd (omega (arith, ltb-true n 0 e))
-        by (negsuc n) f e = let h = f.sfits in omega (arith, residue-of_z (negsuc n) f.sfits)
-
-    pub flip-abs : mag z + 1 ≡ nat_abs z
-    flip-abs = by z (rw (to_z-of_z f) at e)
-      where
-        by : (z : ℤ) → lt_z z (pos 0) ≡ true → mag z + 1 ≡ nat_abs z
-        by (pos n) e = absurd (omega (arith, ltb-true n 0 e))
-        by (negsuc n) e = omega arith
-
-  pub natural-residue : lt_z (to_z w64 (of_z w64 z)) (pos 0) ≡ false → nat_abs (to_z w64 (of_z w64 z)) ≡ residue 64 z
-  natural-residue e = rw (to_z-of_z f) (by z f (rw (to_z-of_z f) at e))
-    where
-      by : (z : ℤ) → SFits w64 z → lt_z z (pos 0) ≡ false → nat_abs z ≡ residue 64 z
-      by (pos n) f e = sym (residue-of_z (pos n) f.sfits)
-      by (negsuc n) f e = let z : ◌≡◌ {A = ℕ} 0 1 = cc in absurd (omega arith)

@@ -16,7 +16,7 @@ pub shaped-requires : goal.shaped-requires
 shaped-requires c = (
   subst (λ x. x.next ≤ length c.args.text.now) (sym c.name_at-name.ensures)
       (letters-within c.args.text.now c.args.at (search rules)),
-  subst Few (sym c.shape_of-shape.ensures) (shape-few (opcode_of c.code_of-code.result)),
+  subst Few (sym c.shape_of.ensures) (shape-few (opcode_of c.code_of-code.result)),
 )
 
 pub returns : goal.returns
@@ -25,7 +25,7 @@ returns c =
     let t = c.args.text.now in
     let bytes = c.type_inv.text in
     c.shaped.ensures
-    ∙ ap (shape_at t c.code_of-code.result c.name_at-name.result.next) c.shape_of-shape.ensures
+    ∙ ap (shape_at t c.code_of-code.result c.name_at-name.result.next) c.shape_of.ensures
     ∙ ap (λ n. code_at t n c.name_at-name.result.next) c.code_of-code.ensures
     ∙ ap (λ x. code_at t (code_named x.word) x.next) c.name_at-name.ensures
     ∙ line-at t c.args.at (λ i. (bytes i).fits) c.requires

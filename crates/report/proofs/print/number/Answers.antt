@@ -1,12 +1,9 @@
 -- `report::print::number` meets its contract: there is room for the 20 digits that a number has at most.
 -- Assumes nothing.
-use native.Mathlib.Omega.{arith}
-use Rattle.word.specs.Text.{natural}
-use Rattle.report.proofs.Texts.{written-put, natural-short}
+use Rattle.report.proofs.Texts.{written_natural}
 use Rattle.report.proofs.print.number.Goals as goal
 
 pub returns : goal.returns
 returns c =
-    let a = c.args in
-    written-put (natural a.n) a.out.now a.at c.put_natural.result c.next.result c.put_natural.new.out
-    (omega (arith, natural-short a.n, c.requires)) c.put_natural.ensures.answer c.put_natural.ensures.written c.next.ensures
+    let said = c.put_natural.ensures in
+    written_natural _ _ _ _ _ _ c.requires said.answer said.written c.unwrap_or.ensures

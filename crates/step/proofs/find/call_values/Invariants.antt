@@ -1,11 +1,9 @@
--- `step::find::call_values` meets its contract. The loop's invariant: what is still to be looked at decides. The measure is how many arguments
--- are left.
+-- `step::find::call_values` meets its contract. The loop's invariant: what is still to be looked at decides.
 -- Assumes nothing.
-use Rattle.step.proofs.Values.{Looking}
+use mathlib.Core.Path.{◌≡◌}
+use Prim.Native.Nat.{suc}
+use Rattle.step.specs.Find.{top_values}
 use Rattle.step.proofs.find.call_values.Given as goal
 
-abbrev pub invariant-loop-left : goal.invariant-loop-left
-invariant-loop-left l = Looking l.m l.stack l.arguments l.left
-
-abbrev pub decreases-loop-left : goal.decreases-loop-left
-decreases-loop-left l = l.left
+abbrev pub invariant-loop-below : goal.invariant-loop-below
+invariant-loop-below l = top_values l.stack l.m.depth (suc l.below) ≡ top_values l.stack l.m.depth (suc l.arguments)

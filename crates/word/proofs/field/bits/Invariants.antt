@@ -1,11 +1,8 @@
--- `word::field::bits` meets its contract. The loop's invariant: the number is that of the bytes from `i` on. The measure is
--- `i`. Assumes nothing.
-use Rattle.std.proofs.Common.{◌≡◌, ◌+◌, ◌-◌, ◌≤◌}
-use Rattle.word.specs.Field.{bits_at}
+-- `word::field::bits` meets its contract. The loop's invariant: the number is that of the bytes from `i` on.
+-- Assumes nothing.
+use Rattle.std.proofs.Common.{◌≡◌, drop}
+use Rattle.word.specs.Digits.{value_of}
 use Rattle.word.proofs.field.bits.Given as goal
 
 abbrev pub invariant-loop-i : goal.invariant-loop-i
-invariant-loop-i l = (l.i ≤ l.width) × (l.number ≡ bits_at (l.width - l.i) l.s (l.at + l.i))
-
-abbrev pub decreases-loop-i : goal.decreases-loop-i
-decreases-loop-i l = l.i
+invariant-loop-i l = l.number ≡ value_of 256 (drop l.i l.field)

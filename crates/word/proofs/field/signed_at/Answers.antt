@@ -1,31 +1,34 @@
 -- `word::field::signed_at` meets its contract: the field's bits, where it is whole, are read in two's complement.
 -- Assumes nothing.
-use Rattle.std.proofs.Common.{sym, arith, rules}
-use Rattle.word.proofs.Laws.Test.{leb-passed, leb-failed}
+use Rattle.std.proofs.Common.{◌≡◌, sym, ap, ◌∙◌, arith}
+use Rattle.word.specs.Digits.{value_of}
+use Rattle.word.specs.Field.{bits_at}
 use Rattle.word.proofs.Signed.{back-ok}
 use Rattle.word.proofs.Laws.Field.{bits_at-lt, signed_at-whole, signed_at-cut}
 use Rattle.word.proofs.field.signed_at.Goals as goal
 
-pub bits-requires : goal.bits-requires
-bits-requires c = (leb-passed _ _ c.within.ensures c.if-within.true, search rules)
+pub returns-in_err-field : goal.returns-in_err-field
+returns-in_err-field g c =
+    let a = c.args in
+    rw c.from_residual.ensures (sym (signed_at-cut g.W.Width.BYTES a.s.now a.at (rw c.BYTES.ensures at c.in_err-field.ensures)))
 
 pub complement-requires : goal.complement-requires
-complement-requires c =
+unfolding bits_at
+complement-requires g c =
     let a = c.args in
-    let whole = leb-passed _ _ c.within.ensures c.if-within.true in
-    let bytes = c.type_inv.s in
-    let small = bits_at-lt a.width a.s.now a.at whole (λ i. (bytes i).fits) in
-    (omega arith, omega arith, rw c.bits.ensures small)
+    let width = g.W.Width.in_a_word in
+    let k = c.BYTES.result in
+    let same : c.BYTES-2.result ≡ k = omega arith in
+    let there = c.in_ok-field.ensures in
+    let small = bits_at-lt k a.s.now a.at there.0 (λ i. (c.type_inv.s i).fits) in
+    rw same (omega arith, omega arith, rw (c.bits.ensures, there.1) small)
 
-pub returns-then-within : goal.returns-then-within
-returns-then-within c =
+pub returns : goal.returns
+unfolding bits_at
+returns g c =
     let a = c.args in
-    let whole = leb-passed _ _ c.within.ensures c.if-within.true in
-    rw (back-ok c.complement.result c.complement.type_inv, c.complement.ensures, c.bits.ensures)
-    (sym (signed_at-whole a.width a.s.now a.at whole))
-
-pub returns-else-within : goal.returns-else-within
-returns-else-within c =
-    let a = c.args in
-    let cut = leb-failed _ _ c.within.ensures c.if-within.false in
-    sym (signed_at-cut a.width a.s.now a.at cut)
+    let k = g.W.Width.BYTES in
+    let there = rw c.BYTES.ensures at c.in_ok-field.ensures in
+    let bits : c.bits.result ≡ bits_at k a.s.now a.at = c.bits.ensures ∙ ap (value_of 256) there.1 in
+    rw (back-ok c.complement.result c.complement.type_inv, c.complement.ensures, bits, c.BYTES-2.ensures)
+    (sym (signed_at-whole k a.s.now a.at there.0))

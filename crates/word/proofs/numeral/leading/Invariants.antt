@@ -4,8 +4,8 @@ use Rattle.std.proofs.Common.{◌-◌, length}
 use Rattle.word.proofs.Laws.Reading.{Keeps}
 use Rattle.word.proofs.numeral.leading.Given as goal
 
-abbrev pub invariant-loop-i : goal.invariant-loop-i
-invariant-loop-i l = Keeps l.s l.at l.value l.i
+abbrev pub invariant-loop-next : goal.invariant-loop-next
+invariant-loop-next l = Keeps l.s l.at l.value l.next
 
-abbrev pub decreases-loop-i : goal.decreases-loop-i
-decreases-loop-i l = length l.s - l.i
+abbrev pub decreases-loop-next : goal.decreases-loop-next
+decreases-loop-next l = length l.s - l.next

@@ -1,36 +1,25 @@
 -- `word::text::put_numeral` meets its contract: the test of the room decides.
 -- Assumes nothing.
-use Rattle.std.proofs.Common.{◌+◌, ◌≤◌, length, sym, ◌∙◌, arith, rules}
+use Rattle.std.proofs.Common.{◌≡◌, ◌-◌, length, take, drop, ◌∙◌, arith, length-drop, length-take-le}
 use Rattle.word.specs.Text.{numeral}
-use Rattle.word.proofs.Laws.Test.{leb-passed, leb-failed}
+use Rattle.word.proofs.Clauses.{both}
 use Rattle.word.proofs.Laws.Numeral.{numeral-length}
-use Rattle.word.proofs.Laws.Text.{put-room, put-none}
+use Rattle.word.proofs.Laws.Text.{put-part, put-short}
 use Rattle.word.proofs.text.put_numeral.Goals as goal
 
-pub put_digits-requires : goal.put_digits-requires
-put_digits-requires c = (search rules, search rules, leb-passed _ _ c.within.ensures c.if-within.true)
-
-pub overflow_add-result : goal.overflow_add-result
-overflow_add-result c =
+pub returns-in_err-next : goal.returns-in_err-next
+returns-in_err-next c =
     let a = c.args in
-    let room : a.at + a.count ≤ length a.out.now =
-    leb-passed _ _ c.within.ensures c.if-within.true in
-    omega arith
+    let text = numeral a.base a.count a.n in
+    rw c.from_residual.ensures (both (put-short a.at _ text a.out.now (numeral-length a.base a.count a.n) c.in_err-next.ensures))
 
-pub returns-then-within : goal.returns-then-within
-returns-then-within c =
+pub returns : goal.returns
+returns c =
     let a = c.args in
-    let put =
-    put-room a.at a.count (numeral a.base a.count a.n) a.out.now
-    (numeral-length a.base a.count a.n)
-    (leb-passed _ _ c.within.ensures c.if-within.true) in
-    record { answer = sym put.0; written = c.put_digits.ensures ∙ sym put.1 }
-
-pub returns-else-within : goal.returns-else-within
-returns-else-within c =
-    let a = c.args in
-    let put =
-    put-none a.at a.count (numeral a.base a.count a.n) a.out.now
-    (numeral-length a.base a.count a.n)
-    (leb-failed _ _ c.within.ensures c.if-within.false) in
-    record { answer = sym put.0; written = sym put.1 }
+    let there = c.in_ok-next.ensures in
+    let long = length-drop a.at a.out.now in
+    let part = take (c.in_ok-next.next - a.at) (drop a.at a.out.now) in
+    let count : length part ≡ a.count =
+    length-take-le (c.in_ok-next.next - a.at) (drop a.at a.out.now) (omega (arith, there, long)) ∙ omega (arith, there) in
+    let text = numeral a.base a.count a.n in
+    rw (c.fill_digits.ensures, count) (both (put-part a.at _ _ text a.out.now (numeral-length a.base a.count a.n) there))

@@ -1,6 +1,0 @@
--- `report::job::allowance` meets its contract, by the field's two cases.
--- Assumes nothing.
-use Rattle.report.proofs.job.allowance.Goals as goal
-
-pub returns-in-Is : goal.returns-in-Is
-returns-in-Is c = rw c.in-Is.is
