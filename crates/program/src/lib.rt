@@ -283,13 +283,13 @@ fn page_at(bytes: &[u8], at: usize) -> Result<(i64, usize), Fault>
     Ok((page as i64, at + 1))
 }
 
-// Two counts as an operand, likewise.
+// Two counts as an operand, likewise: by one test, for two are more than the compiler puts into the callers.
 fn counts_at(bytes: &[u8], at: usize) -> Result<(i64, usize), Fault>
+    requires { at ≤ length bytes.now }
     ensures { result ≡ fetch_field (operand_at Counts bytes.now at) (at + 2) }
 {
-    let arguments = *bytes.get(at).ok_or(Fault::Cut)?;
     let results = *bytes.get(at + 1).ok_or(Fault::Cut)?;
-    Ok((counts(arguments as i64, results as i64), at + 2))
+    Ok((counts(bytes[at] as i64, results as i64), at + 2))
 }
 
 // A signed number of eight bytes at an offset, by its halves, of which the compiler makes one word before it decides where `fetch` goes;

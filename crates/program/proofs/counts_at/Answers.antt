@@ -7,9 +7,6 @@ use Rattle.word.proofs.Signed.{back-ok}
 use Rattle.program.proofs.Fetching.{counts_whole, counts-cut}
 use Rattle.program.proofs.counts_at.Goals as goal
 
-pub returns-in_err-arguments : goal.returns-in_err-arguments
-returns-in_err-arguments c = grind (arith, common_steps, counts-cut c.args.bytes.now c.args.at)
-
 pub returns-in_err-results : goal.returns-in_err-results
 returns-in_err-results c = grind (arith, common_steps, counts-cut c.args.bytes.now c.args.at)
 
@@ -18,7 +15,6 @@ returns c =
     rw (
       back-ok c.counts.result c.counts.type_inv,
       c.counts.ensures,
-      to_z_pos w64 {n = c.in_ok-arguments.field-0.now} (search rules),
       to_z_pos w64 {n = c.in_ok-results.field-0.now} (search rules),
     )
     (grind (arith, common_steps, counts_whole c.args.bytes.now c.args.at))
