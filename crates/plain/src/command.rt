@@ -59,8 +59,15 @@ fn load(m: Machine, stack: &mut [i64], cells: &CellRuns<'_>) -> Result<Stepped, 
         → after result (lent stack.new (cells_of cells.now))
         ≡ (act_of standard_ruler word operand m tt (lent stack.old (cells_of cells.now))).after }
 {
-    let found = find::load_cell(m, stack, cells)?;
-    effect::load(m.label, found.input1.join(found.input2), m, stack, cells)
+    let words = cells.words();
+    let found = find::load_cell(m, stack, words)?;
+    effect::load(
+        m.label,
+        found.input1.join(found.input2),
+        m,
+        stack,
+        words.values,
+    )
 }
 
 // Store: allowed if L1+P flows to L3; P; L1+L2+P labels the cell.
@@ -71,7 +78,7 @@ fn store(m: Machine, stack: &[i64], cells: &mut CellRuns<'_>) -> Result<Stepped,
         → after result (lent stack.now (cells_of cells.new))
         ≡ (act_of standard_ruler word operand m tt (lent stack.now (cells_of cells.old))).after }
 {
-    let found = find::store_cell(m, stack, cells)?;
+    let found = find::store_cell(m, stack, cells.words())?;
     if !found.input1.join(m.label).flows(found.input3) {
         return Err(Stop::Denial);
     }

@@ -2,6 +2,7 @@
 use Rattle.std.specs.Prelude.{◌≡◌, List, ℤ}
 use Rattle.stack.specs.Words.{Stepping}
 use Rattle.step.specs.declared.cell.CellRuns.{CellRuns}
+use Rattle.step.specs.declared.cell.CellWords.{CellWords}
 
 -- the cells: values and labels, cell 0 first
 pub record Cells : Type 0 where
@@ -14,6 +15,10 @@ cells values labels = record { values = values; labels = labels }
 -- the words in the lent runs
 abbrev pub cells_of : CellRuns → Cells
 cells_of c = cells c.values.now c.labels.now
+
+-- and the words in runs that are only read
+abbrev pub cells_in : CellWords → Cells
+cells_in c = cells c.values.now c.labels.now
 
 -- both lend the same two runs
 pub record SameCells (new old : CellRuns) : Type 0 where

@@ -5,7 +5,7 @@ ghost use Rattle.step.specs.Effect.{sum_of, branch_of, arith_effect, pop_effect,
 ghost use Rattle.step.specs.Effect.{load_effect, store_effect, jump_effect, bnz_effect, frame_kind, call_effect, return_effect};
 ghost use Rattle.step.specs.Effect.{effect_of};
 
-use crate::cell::CellRuns;
+use crate::cell::{CellRuns, number_at};
 use label::Label;
 use machine::Stop;
 use program::code;
@@ -104,12 +104,12 @@ pub fn load(
     res: Label,
     m: Machine,
     stack: &mut [i64],
-    cells: &CellRuns<'_>,
+    values: &[i64],
 ) -> Result<Stepped, Stop>
-    ensures { on_stack result stack.new ≡ load_effect place.0 res.0 m stack.old (cells_of cells.now).values }
+    ensures { on_stack result stack.new ≡ load_effect place.0 res.0 m stack.old values.now }
 {
     let a = stack::look(stack, m.depth, 0);
-    let Some(number) = cells.number_at(Address(a.number)) else {
+    let Some(number) = number_at(Address(a.number), values) else {
         return Err(Stop::AddressOutside);
     };
     let over = m.drop().refill(stack, number, res);
@@ -227,7 +227,7 @@ pub fn effect(
         }
     } else if code <= code::STORE {
         if code == code::LOAD {
-            load(place, res, m, stack, cells)
+            load(place, res, m, stack, cells.words().values)
         } else {
             store(place, res, m, stack, cells)
         }

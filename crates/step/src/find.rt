@@ -1,11 +1,11 @@
 // What a command finds: the labels of its inputs, or a stop. Read specs/Find.antt first.
 ghost use Rattle.std.specs.Prelude.{◌≡◌};
-ghost use Rattle.step.specs.Lent.{cells_of, lent};
+ghost use Rattle.step.specs.Lent.{cells_in, lent};
 ghost use Rattle.stack.specs.Words.{slot_at};
 ghost use Rattle.step.specs.Find.{found, value_at, two_values, one_value, call_values, one_frame, value_and_frame};
 ghost use Rattle.step.specs.Find.{load_cell, store_cell, find_of};
 
-use crate::cell::CellRuns;
+use crate::cell::CellWords;
 use label::Label;
 use machine::Stop;
 use program::code;
@@ -109,8 +109,8 @@ pub fn value_and_frame(m: Machine, stack: &[i64]) -> Result<Inputs, Stop>
 
 // Load: an address, and the cell there, else stop 5.
 #[tactic(auto, unfolding(crate::specs::Find::load_cell))]
-pub fn load_cell(m: Machine, stack: &[i64], cells: &CellRuns<'_>) -> Result<Inputs, Stop>
-    ensures { result ≡ load_cell m (lent stack.now (cells_of cells.now)) }
+pub fn load_cell(m: Machine, stack: &[i64], cells: CellWords<'_>) -> Result<Inputs, Stop>
+    ensures { result ≡ load_cell m (lent stack.now (cells_in cells.entry)) }
 {
     let a = value(stack, m.depth, 0)?;
     let Some(label) = cells.label_at(Address(a.number)) else {
@@ -121,8 +121,8 @@ pub fn load_cell(m: Machine, stack: &[i64], cells: &CellRuns<'_>) -> Result<Inpu
 
 // Store: an address and the value for its cell, and the cell as it is, else stop 5.
 #[tactic(auto, unfolding(crate::specs::Find::store_cell))]
-pub fn store_cell(m: Machine, stack: &[i64], cells: &CellRuns<'_>) -> Result<Inputs, Stop>
-    ensures { result ≡ store_cell m (lent stack.now (cells_of cells.now)) }
+pub fn store_cell(m: Machine, stack: &[i64], cells: CellWords<'_>) -> Result<Inputs, Stop>
+    ensures { result ≡ store_cell m (lent stack.now (cells_in cells.entry)) }
 {
     let b = value(stack, m.depth, 1)?;
     let a = value(stack, m.depth, 0)?;
@@ -139,9 +139,9 @@ pub fn find(
     operand: i64,
     m: Machine,
     stack: &[i64],
-    cells: &CellRuns<'_>,
+    cells: CellWords<'_>,
 ) -> Result<Inputs, Stop>
-    ensures { result ≡ find_of code operand m (lent stack.now (cells_of cells.now)) }
+    ensures { result ≡ find_of code operand m (lent stack.now (cells_in cells.entry)) }
 {
     if code <= code::PUSH {
         if code <= code::SUB {

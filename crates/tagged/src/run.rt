@@ -59,7 +59,7 @@ fn act(
         (lent stack.old (cells_of cells.old)) }
 {
     let code = word::wrap::to_bits(word);
-    let found = match find(code, operand, m, stack, cells) {
+    let found = match find(code, operand, m, stack, cells.words()) {
         Ok(found) => found,
         Err(stop) => {
             let kept = Kept {
