@@ -65,9 +65,9 @@ fn next(count: usize, program: &[i64], i: usize, m: Machine, left: u64, stack: &
     }
 }
 
-// Runs a loaded program of `count` commands from the start, for at most `fuel` steps. What it needs of the count and the lent
-// runs is tested once more, here where the compiler sees it: it then leaves the tests of lengths out of the loop. The allowance is counted down, so that the loop
-// carries one value less than with the steps counted up to it: no `for`, since a Push takes two of it with the command after it.
+// Runs a loaded program of `count` commands from the start, for at most `fuel` steps. What it needs of the lent runs is tested once more,
+// here where the compiler sees it: it then leaves the tests of lengths out of the loop. Not so the count, by which the loop is slower. The allowance is counted down,
+// so that the loop carries one value less than with the steps counted up to it: no `for`, since a Push takes two of it with the command after it.
 pub(crate) fn go(
     count: usize,
     surroundings: Surroundings<'_>,
@@ -87,11 +87,7 @@ pub(crate) fn go(
 {
     let mut m = Machine::start();
     let mut left: u64 = fuel;
-    if 4096 < count
-        || stack.len() < 768
-        || 1024 < cells.values.len()
-        || cells.values.len() != cells.labels.len()
-    {
+    if stack.len() < 768 || 1024 < cells.values.len() || cells.values.len() != cells.labels.len() {
         return Ran {
             machine: m,
             stop: Stop::FuelSpent,

@@ -91,10 +91,12 @@ impl Machine {
 
     // At another place, with a place label.
     #[tactic(auto, unfolding(crate::specs::Words::gone))]
-    pub fn goto(self, pc: Pc, label: Label) -> Machine
+    pub fn goto(mut self, pc: Pc, label: Label) -> Machine
         ensures { result ≡ gone self pc.0 label.0 }
     {
-        Machine { pc, label, ..self }
+        self.pc = pc;
+        self.label = label;
+        self
     }
 
     // At the next place.

@@ -5,7 +5,6 @@ pub mod Modulo
 pub mod Parts
 pub mod Wrap
 pub mod Exact
-pub mod Ends
 pub mod Word
 pub mod Field
 pub mod Numeral

@@ -6,7 +6,12 @@ ghost use Rattle.word.specs.Text.{put_answer, put_out};
 pub(crate) fn end(len: usize, at: usize, size: usize) -> Option<usize>
     ensures { MatchOption result (len < at + size) (λ end. (at + size ≤ len) × (end ≡ at + size)) }
 {
-    at.checked_add(size).filter(|end| *end <= len)
+    // not by `checked_add`, which leaves one test more where `size` is known
+    if size <= len && at <= len - size {
+        Some(at + size)
+    } else {
+        None
+    }
 }
 
 // As many bytes from the start, all of them where there are no more.

@@ -5,4 +5,4 @@ use Rattle.program.proofs.Codes.{opcode_of-outside}
 use Rattle.program.proofs.name_of.Goals as goal
 
 pub returns-in_default : goal.returns-in_default
-returns-in_default c = rw (c.named-in_default.ensures, opcode_of-outside c.args.code (λ h. omega (arith, c.in_default)))
+returns-in_default c = rw (opcode_of-outside c.args.code (λ h. omega (arith, c.in_default)))
