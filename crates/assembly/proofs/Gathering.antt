@@ -110,7 +110,7 @@ read-end zero number = refl
 read-end (suc left) number = refl
 
 module _ {s : List ℕ} {at count size : ℕ} {old new : List ℕ} (g : Gathered s at count size old new) where
-  gathered-length : length new ≡ length old
+  pub gathered-length : length new ≡ length old
   gathered-length = ap length g.held ∙ length-laid (encode g.done) old (omega (arith, g.sized, g.roomy))
 
   -- all is read

@@ -3,7 +3,7 @@
 use mathlib.Core.Path.{◌≡◌, refl, sym, ap, ◌∙◌}
 use mathlib.Core.Bool.{Bool, true, false}
 use mathlib.Core.List.{List, [], ◌∷◌, ◌++◌, reverse, reverse-cons, reverse-append}
-use Prim.Native.Nat.{ℕ, suc, ◌+◌, ◌-◌, ◌*◌, ◌/◌, ◌%◌, ◌^◌, ◌<◌, ◌≤◌}
+use Prim.Native.Nat.{ℕ, zero, suc, ◌+◌, ◌-◌, ◌*◌, ◌/◌, ◌%◌, ◌^◌, ◌<◌, ◌≤◌}
 use native.Mathlib.Nat.{div-div-eq-div-mul}
 use native.Mathlib.Omega.{arith}
 use lib.ListN.{length, drop, get_or, set, length-set, length-append, length-reverse, drop_of_length-le, get_or-eq_default}
@@ -16,6 +16,12 @@ use Rattle.word.proofs.Lay.{laid_at-nil, laid_at-cons, laid_at-snoc, laid_at-bot
 use Rattle.word.proofs.Laws.Digits.{digits-length, digits_append}
 use Rattle.word.proofs.Laws.Field.{pow-bytes}
 use Rattle.assembly.specs.Scan.{letters_to, letters_from}
+
+-- within a list no default is needed
+pub get_d-within : (l : List ℕ) (i d e : ℕ) → i < length l → get_or l i d ≡ get_or l i e
+get_d-within [] i d e h = absurd (omega arith)
+get_d-within (x ∷ l) zero d e h = refl
+get_d-within (x ∷ l) (suc i) d e h = get_d-within l i d e (omega arith)
 
 -- a byte that is no newline stands within the text
 pub byte-within : (s : List ℕ) (at b : ℕ) → (b ≡ 10 → ⊥) → get_or s at 10 ≡ b → at < length s

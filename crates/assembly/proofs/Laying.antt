@@ -30,7 +30,7 @@ use Rattle.assembly.specs.Space.{numbers_by, numbers_in, number_text, numbers_te
 -- ════════════════════════════════════════════════════════════════════════════════════════════
 
 -- its numbers
-numbers-text : (x : Option Opcode) (z : ℤ) → numbers_text (numbers_in x z) ≡ operand_in x z
+pub numbers-text : (x : Option Opcode) (z : ℤ) → numbers_text (numbers_in x z) ≡ operand_in x z
 numbers-text None z = refl
 numbers-text (Some o) z = by (operand_of o)
   where
@@ -50,7 +50,7 @@ pub number-few : (z : ℤ) → Word.Signed 64 z → length (number_text z) ≤ 2
 number-few z h = omega (arith, decimal-length z h)
 
 -- two counts of a word are words
-counts-words : (z : ℤ) → Word.Signed 64 z → Word.Signed 64 (pos (arguments_of z)) × Word.Signed 64 (pos (results_of z))
+pub counts-words : (z : ℤ) → Word.Signed 64 z → Word.Signed 64 (pos (arguments_of z)) × Word.Signed 64 (pos (results_of z))
 counts-words (pos n) h = (omega arith, omega arith)
 counts-words (negsuc n) h = (omega arith, omega arith)
 
@@ -102,16 +102,16 @@ pub name-few : (x : Option Opcode) → length (letters_in x) ≤ 8
 name-few None = omega arith
 name-few (Some o) = Naming.name-short o
 
-name-letters : (x : Option Opcode) → reverse (digits_of 256 (name_of x).length (name_of x).word) ≡ letters_in x
+pub name-letters : (x : Option Opcode) → reverse (digits_of 256 (name_of x).length (name_of x).word) ≡ letters_in x
 unfolding digits_of
 name-letters None = refl
 name-letters (Some o) = packed-letters (letters o) (Naming.name-letters o)
 
-line-size : (x : Option Opcode) (z : ℤ) → length (code_text x z) ≡ length (letters_in x) + length (operand_in x z) + 1
+pub line-size : (x : Option Opcode) (z : ℤ) → length (code_text x z) ≡ length (letters_in x) + length (operand_in x z) + 1
 line-size x z = simp length-append
 
 -- the three parts, one after the other
-line-laid : (x : Option Opcode) (z : ℤ) (at : ℕ) (old : List ℕ) → at + length (code_text x z) ≤ length old
+pub line-laid : (x : Option Opcode) (z : ℤ) (at : ℕ) (old : List ℕ) → at + length (code_text x z) ≤ length old
     → (let mid = at + length (letters_in x) in
     let end = mid + length (operand_in x z) in
     set (laid_at mid (operand_in x z) (laid_at at (letters_in x) old)) end newline ≡ laid_at at (code_text x z) old)
@@ -160,10 +160,10 @@ module _ (x : Option Opcode) (b : Bare x) where
   pub bare-line : (z : ℤ) → code_text x (pos 0) ≡ code_text x z
   bare-line z = bare-text (pos 0) ∙ sym (bare-text z)
 
-  bare-size : length (code_text x (pos 0)) ≡ length (letters_in x) + 1
+  pub bare-size : length (code_text x (pos 0)) ≡ length (letters_in x) + 1
   bare-size = ap length (bare-text (pos 0)) ∙ length-append (letters_in x) (newline ∷ [])
 
-  bare-laid : (at : ℕ) (old : List ℕ) → at + length (code_text x (pos 0)) ≤ length old
+  pub bare-laid : (at : ℕ) (old : List ℕ) → at + length (code_text x (pos 0)) ≤ length old
       → set (laid_at at (letters_in x) old) (at + length (letters_in x)) newline ≡ laid_at at (code_text x (pos 0)) old
   bare-laid at old h =
       let a = letters_in x in

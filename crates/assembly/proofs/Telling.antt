@@ -128,7 +128,7 @@ module _ {s : List ℕ} (acc : Acceptable s) {at size : ℕ} (t : Told s at size
       told-forward = n.forward
 
       -- it has no operand where the next one follows at once
-      told-bare : next ≡ at + 1 → Bare (opcode_of (get_or s at 0))
+      pub told-bare : next ≡ at + 1 → Bare (opcode_of (get_or s at 0))
       told-bare k = (n.opcode, sym (ap opcode_of n.code) ∙ opcode_of-code_of n.opcode, omega (arith, n.next-is))
 
       -- it may have its operand, as the sheet is acceptable
@@ -183,7 +183,7 @@ unfolding told-start listing
 laid-start s old = record { told = told-start s; held = sym (sym (laid_at-zero [] old) ∙ laid_at-nil 0 old) }
 
 module _ {s : List ℕ} (acc : Acceptable s) {at size : ℕ} {old new : List ℕ} (i : Laid s at size old new) where
-  laid-length : length (text_of s) ≤ length old → length new ≡ length old
+  pub laid-length : length (text_of s) ≤ length old → length new ≡ length old
   laid-length h =
       let w = left_over acc i.told in
       let k = ap length (text-is s acc ∙ ap listing w.2 ∙ listing-append i.told.done w.0) in
@@ -220,7 +220,7 @@ module _ {s : List ℕ} (acc : Acceptable s) {at size : ℕ} {old new : List ℕ
 -- How long the text is
 -- ════════════════════════════════════════════════════════════════════════════════════════════
 
-counted-acceptable : (s : List ℕ) (count : ℕ) → Counted s count → Acceptable s
+pub counted-acceptable : (s : List ℕ) (count : ℕ) → Counted s count → Acceptable s
 counted-acceptable s count k = by (decode s) refl k
   where
     by : (d : Decoded) → decode s ≡ d → check_answer d ≡ Ok count → Acceptable s

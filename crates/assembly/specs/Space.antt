@@ -1,5 +1,6 @@
 -- What the code keeps in spaces of its own and of its callers.
-use Rattle.std.specs.Prelude.{ℕ, zero, suc, ◌+◌, ◌*◌, ◌≤◌, ◌≡◌, List, [], ◌∷◌, ◌++◌, ℤ, pos, length, Err, None, Ok, Option, Result, Some}
+use Rattle.std.specs.Prelude.{ℕ, zero, suc, ◌+◌, ◌*◌, ◌≤◌, ◌≡◌, List, [], ◌∷◌, ◌++◌, ℤ, pos, length, take, leb, Err, None, Ok, Option, Result, Some}
+use Rattle.word.specs.Choose.{choose}
 use Rattle.word.specs.Lay.{laid}
 use Rattle.word.specs.Text.{decimal}
 use Rattle.program.specs.declared.Command.{Command}
@@ -28,6 +29,15 @@ Holding (given bytes) old new = (new ≡ laid bytes old) × (length bytes ≤ le
 
 abbrev pub refused_at : ℕ → ℕ → Result ℕ Refusal
 refused_at code position = Err (refusal code position)
+
+-- a sheet that was read into a space, handed over where there is room
+abbrev pub handed_answer : Result ℕ Refusal → List ℕ → Result ℕ Refusal
+handed_answer (Err r) out = Err r
+handed_answer (Ok n) out = choose (leb n (length out)) (Ok n) (refused_at 8 4)
+
+abbrev pub handed_out : Result ℕ Refusal → List ℕ → List ℕ → List ℕ
+handed_out (Err r) sheet out = out
+handed_out (Ok n) sheet out = choose (leb n (length out)) (laid (take n sheet) out) out
 
 -- ════════════════════════════════════════════════════════════════════════════════════════════
 -- Listing

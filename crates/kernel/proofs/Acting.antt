@@ -60,12 +60,12 @@ folding-effect code place s row = by (eqb code (code_of Add)) (eqb code (code_of
 module _ (s : Registers) (w : List ℤ) where
   pub fold-none : (code : ℕ) (w' : List ℤ) → s.depth < 2 → Does (folding code) s w (Err End.Failed) w'
   unfolding Does DoesOn
-  fold-none code w' h row e = sym (folding-effect code s.place (stack_of s w) row ∙ values-none s w _ h)
+  fold-none code w' h row = sym (folding-effect code s.place (stack_of s w) row ∙ values-none s w _ h)
 
   pub fold_done : (code : ℕ) → 2 ≤ s.depth
       → Does (folding code) s w (going (registers (s.place + 1) (s.depth - 1) (combined code s.top (get_or w (s.depth - 1) (pos 0))))) w
   unfolding Does DoesOn
-  fold_done code h row e =
+  fold_done code h row =
       going_next s.place (s.depth - 1) _ w row _ (topped-at w _ (s.depth - 1) (s.depth - 2) (omega arith))
       ∙ sym (folding-effect code s.place (stack_of s w) row ∙ values-two s w _ h)
 
@@ -75,31 +75,31 @@ module _ (s : Registers) (w : List ℤ) where
 
   pub push-full : (a : ℤ) (w' : List ℤ) → 64 ≤ s.depth → Does (Push a) s w (Err End.Failed) w'
   unfolding Does DoesOn effect
-  push-full a w' h row e = rw (stack-length s w, le-ltb s.depth 64 h)
+  push-full a w' h row = rw (stack-length s w, le-ltb s.depth 64 h)
 
   pub push-done : (a : ℤ) → s.depth < 64 → length w ≡ 64
       → Does (Push a) s w (going (registers (s.place + 1) (s.depth + 1) a)) (set w s.depth s.top)
   unfolding Does DoesOn effect stack_of
-  push-done a h g row e =
+  push-done a h g row =
       rw (stack-length s w, lt-ltb s.depth 64 h)
       (going_next s.place (s.depth + 1) a _ row _ (topped-push w s.top a s.depth (omega arith)))
 
   pub dup-none : (w' : List ℤ) → s.depth < 1 → Does Dup s w (Err End.Failed) w'
   unfolding Does DoesOn effect
-  dup-none w' h row e = sym (value_none s w _ h)
+  dup-none w' h row = sym (value_none s w _ h)
 
   pub dup-done : (r : Step) (w' : List ℤ) → 1 ≤ s.depth → Does (Push s.top) s w r w' → Does Dup s w r w'
   unfolding Does DoesOn effect
-  dup-done r w' h k row e = k row e ∙ sym (value-one s w (λ a rest. pushing s.place a (stack_of s w) row) h)
+  dup-done r w' h k row = k row ∙ sym (value-one s w (λ a rest. pushing s.place a (stack_of s w) row) h)
 
   pub swap-none : (w' : List ℤ) → s.depth < 2 → Does Swap s w (Err End.Failed) w'
   unfolding Does DoesOn effect
-  swap-none w' h row e = sym (values-none s w _ h)
+  swap-none w' h row = sym (values-none s w _ h)
 
   pub swap-done : 2 ≤ s.depth → s.depth ≤ 64 → length w ≡ 64
       → Does Swap s w (going (registers (s.place + 1) s.depth (get_or w (s.depth - 1) (pos 0)))) (set w (s.depth - 1) s.top)
   unfolding Does DoesOn effect
-  swap-done h l g row e =
+  swap-done h l g row =
       going_next s.place s.depth _ _ row _
       (topped-at (set w (s.depth - 1) s.top) _ s.depth (s.depth - 1) (omega arith)
       ∙ ap (λ (xs : List ℤ). get_or w (s.depth - 1) (pos 0) ∷ xs)
@@ -172,7 +172,7 @@ module _ (s : Registers) (w : List ℤ) where
 -- Jump and Bnz
 -- ════════════════════════════════════════════════════════════════════════════════════════════
 
-module _ (s : Registers) (w row : List ℤ) (e : length row ≡ 7) where
+module _ (s : Registers) (w row : List ℤ) where
   -- where a test chooses between a place and failing
   if-goes : (b : Bool) (n : ℕ) → effect_of (choose b (going (moved s n)) (Err End.Failed)) w row ≡ provided b (goes n (stack_of s w) row)
   unfolding stack_of
@@ -201,17 +201,17 @@ from_zero (negsuc n) = let e : suc n - 1 ≡ n = omega arith in rw (lt-ltb 0 (su
 module _ (s : Registers) (w : List ℤ) where
   pub jump-none : (w' : List ℤ) → s.depth < 1 → Does Jump s w (Err End.Failed) w'
   unfolding Does DoesOn effect
-  jump-none w' h row e = sym (value_none s w _ h)
+  jump-none w' h row = sym (value_none s w _ h)
 
   pub jump-done : 1 ≤ s.depth → Does Jump s w (jumping_from 0 s.top (below s w)) w
   unfolding Does DoesOn effect
-  jump-done h row e =
-      jump-effect (below s w) w row e 0 s.top (omega arith) ∙ rw (from_zero s.top, below-stack s w) (sym (value-one s w _ h))
+  jump-done h row =
+      jump-effect (below s w) w row 0 s.top (omega arith) ∙ rw (from_zero s.top, below-stack s w) (sym (value-one s w _ h))
 
   module _ (z : ℤ) where
     pub bnz-none : (w' : List ℤ) → s.depth < 1 → Does (Bnz z) s w (Err End.Failed) w'
     unfolding Does DoesOn effect
-    bnz-none w' h row e = sym (value_none s w _ h)
+    bnz-none w' h row = sym (value_none s w _ h)
 
     bnz-target : (target : ℤ) (r : Step) (row : List ℤ) → 1 ≤ s.depth → branch s.top (pos s.place) z ≡ target
         → effect_of r w row ≡ jumping s.place target (stack_of (below s w) w) row → DoesOn row (Bnz z) s w r row w
@@ -221,7 +221,7 @@ module _ (s : Registers) (w : List ℤ) where
 
     pub bnz-zero : 1 ≤ s.depth → is_zero s.top ≡ true → Does (Bnz z) s w (going (moved (below s w) (s.place + 1))) w
     unfolding Does DoesOn stack_of
-    bnz-zero h q row e =
+    bnz-zero h q row =
         bnz-target (pos (s.place + 1)) (going (moved (below s w) (s.place + 1))) row h (by s.top q)
         (refl ∙ rw (lt-ltb s.place (s.place + 1) (omega arith)))
       where
@@ -232,9 +232,9 @@ module _ (s : Registers) (w : List ℤ) where
 
     pub bnz-taken : 1 ≤ s.depth → is_zero s.top ≡ false → Does (Bnz z) s w (jumping_from s.place z (below s w)) w
     unfolding Does DoesOn
-    bnz-taken h q row e =
+    bnz-taken h q row =
         bnz-target (pos s.place +ℤ z) (jumping_from s.place z (below s w)) row h (by s.top q)
-        (jump-effect (below s w) w row e s.place z (omega arith))
+        (jump-effect (below s w) w row s.place z (omega arith))
       where
         by : (a : ℤ) → is_zero a ≡ false → branch a (pos s.place) z ≡ pos s.place +ℤ z
         by (pos zero) f = never (cc)
@@ -264,19 +264,19 @@ residue-known (negsuc code) n f =
 module _ (row : List ℤ) (o : Option Instruction) (s : Registers) (w : List ℤ) where
   pub acts-on : (i : Instruction) (r : Step) (row' w' : List ℤ) → o ≡ Some i → DoesOn row i s w r row' w' → Acts row o s w r row' w'
   unfolding DoesOn Acts
-  acts-on i r row' w' e h l = rw e h
+  acts-on i r row' w' e h = rw e h
 
   pub acts : (i : Instruction) (r : Step) (w' : List ℤ) → o ≡ Some i → Does i s w r w' → Acts row o s w r row w'
   unfolding Does DoesOn Acts
-  acts i r w' e h l = rw e (h row l)
+  acts i r w' e h = rw e (h row)
 
   pub acts_none : (w' : List ℤ) → o ≡ None → Acts row o s w (Err End.Failed) row w'
   unfolding Acts
-  acts_none w' e l = rw e
+  acts_none w' e = rw e
 
   pub acts_ret : (w' : List ℤ) → o ≡ Some Ret → Acts row o s w (Err End.Returned) row w'
   unfolding Acts effect
-  acts_ret w' e l = rw e
+  acts_ret w' e = rw e
 
 -- where a code is or is not: Add and Sub, below them all, and between them
 pub fold-known : (code : ℕ) (n : ℤ) → code_of Add ≤ code → code ≤ code_of Sub → known (pos code) n ≡ Some (folding code)

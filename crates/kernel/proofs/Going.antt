@@ -18,7 +18,7 @@ use Rattle.kernel.specs.declared.Registers.{Registers}
 use Rattle.handler.specs.Kernel.{Instruction, Outcome, returned, denied, failed, Effect, ends, goes, effect_at}
 use Rattle.handler.specs.Kernel.{Code, Kernel, Result, ended, after, step, run, start}
 use Rattle.handler.specs.Space.{instruction_at, held, handle_space}
-use Rattle.kernel.specs.Words.{stack_of, registers, state, outcome_of, effect_of, Step, Acts}
+use Rattle.kernel.specs.Words.{stack_of, registers, state, outcome_of, effect_of, Step, Acts, Held}
 use Rattle.kernel.proofs.Words.{stack-length}
 use Rattle.handler.proofs.Effect.{step_kept}
 
@@ -44,6 +44,21 @@ held_is words count limit place e = by (ltb place count) (ltb (2 * place + 1) wo
     by true true f g = sym (lt-ltb place limit (omega (arith, ltb-true place count f, ltb-true (2 * place + 1) words g)))
     by true false f g = sym (le-ltb place limit (omega (arith, ltb-false (2 * place + 1) words g)))
     by false b f g = sym (le-ltb place limit (omega (arith, ltb-false place count f)))
+
+-- those are the places that have both of their words
+pub held-least : (words count limit : ℕ) → limit ≡ min (words / 2) count → Held words count limit
+unfolding Held
+held-least words count limit e place = sym (held_is words count limit place e)
+
+-- both words of an instruction at a place below the limit are there
+pub held_both : (words count limit place : ℕ) → Held words count limit → place < limit → (place < count) × (2 * place + 1 < words)
+unfolding Held
+held_both words count limit place h p = by (ltb place count) (ltb (2 * place + 1) words) refl refl (sym (h place) ∙ lt-ltb place limit p)
+  where
+    by : (a b : Bool) → ltb place count ≡ a → ltb (2 * place + 1) words ≡ b → (a && b) ≡ true → (place < count) × (2 * place + 1 < words)
+    by true true f g e = (ltb-true place count f, ltb-true (2 * place + 1) words g)
+    by true false f g e = absurd (let x : ◌≡◌ {A = ℕ} 0 1 = cc in omega arith)
+    by false b f g e = absurd (let x : ◌≡◌ {A = ℕ} 0 1 = cc in omega arith)
 
 -- ════════════════════════════════════════════════════════════════════════════════════════════
 -- The loop
@@ -94,7 +109,7 @@ module _ (count : ℕ) (space row₀ : List ℤ) where
         unfolding step Acts
         here =
             let e = held_is (length space) count limit s.place h ∙ lt-ltb s.place limit p in
-            rw e (act-at (instruction_at space s.place) s stack row steps 0 ∙ sym (a g.words))
+            rw e (act-at (instruction_at space s.place) s stack row steps 0 ∙ sym a)
 
         by : (e : Effect) → effect_of r stack' row' ≡ e
             → after e (state s stack row steps) (λ y. run (held space count) (count - (steps + 1)) y)

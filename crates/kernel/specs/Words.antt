@@ -1,5 +1,5 @@
 -- The kernel on words, as the code has it: the topmost entry of the stack is a register, the others lie in words, bottom first.
-use Rattle.std.specs.Prelude.{ℕ, zero, suc, ◌+◌, ◌-◌, ◌^◌, ◌<◌, ◌≤◌, ◌≡◌, List, [], ◌∷◌, ℤ, pos, negsuc, length, get_or, ltb, eqb, Option, Result, Ok, Err}
+use Rattle.std.specs.Prelude.{ℕ, zero, suc, ◌+◌, ◌-◌, ◌*◌, ◌^◌, ◌<◌, ◌≤◌, ◌≡◌, ◌&&◌, List, [], ◌∷◌, ℤ, pos, negsuc, length, get_or, ltb, eqb, Option, Result, Ok, Err}
 use Rattle.word.specs.Choose.{choose}
 use Rattle.word.specs.Wrap.{add_wrap, sub_wrap}
 use Rattle.kernel.specs.declared.Registers.{Registers}
@@ -64,15 +64,15 @@ DoesOn row i s before r row' after = effect_of r after row' ≡ effect i s.place
 
 -- and on any row, which it left as it was
 unfoldable pub Does : Instruction → Registers → List ℤ → Step → List ℤ → Type 0
-Does i s before r after = (row : List ℤ) → length row ≡ 7 → DoesOn row i s before r row after
+Does i s before r after = (row : List ℤ) → DoesOn row i s before r row after
 
 -- the kernel's state that the words stand for, after so many steps
 abbrev pub state : Registers → List ℤ → List ℤ → ℕ → Kernel
 state s words row steps = record { place = s.place; stack = stack_of s words; row = row; steps = steps }
 
--- the instruction, if there is one, on a row of seven words
+-- the instruction, if there is one, on a row, which it left as another
 unfoldable pub Acts : List ℤ → Option Instruction → Registers → List ℤ → Step → List ℤ → List ℤ → Type 0
-Acts row o s before r row' after = length row ≡ 7 → effect_of r after row' ≡ effect_at o (state s before row 0)
+Acts row o s before r row' after = effect_of r after row' ≡ effect_at o (state s before row 0)
 
 -- ════════════════════════════════════════════════════════════════════════════════════════════
 -- Parts of instructions
@@ -97,6 +97,10 @@ jumping_from base (negsuc n) s = choose (eqb n base) (Err End.Denied) (Err End.F
 -- ════════════════════════════════════════════════════════════════════════════════════════════
 -- What a handler leaves
 -- ════════════════════════════════════════════════════════════════════════════════════════════
+
+-- of the places below a count, those below a limit have both of their words
+unfoldable pub Held : (words count limit : ℕ) → Type 0
+Held words count limit = (place : ℕ) → ltb place limit ≡ (ltb place count && ltb (2 * place + 1) words)
 
 abbrev pub result_of : Handled → Handler.Result
 result_of r = record { outcome = outcome_of r.outcome; row = r.cache.words; steps = r.steps }

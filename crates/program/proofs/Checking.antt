@@ -79,10 +79,10 @@ module _ (s : List ℕ) (at count : ℕ) (i : Invariant s at count) where
     answer-suc : counted count (decode_from (suc left) at (drop at s)) ≡ check_answer (decode s)
     answer-suc = ap (λ n. counted count (decode_from n at (drop at s))) (sym left-suc) ∙ i.answer
 
-    invariant-unknown : fetch_of s at ≡ Err Unknown → Err (refusal 2 at) ≡ check_answer (decode s)
+    pub invariant-unknown : fetch_of s at ≡ Err Unknown → Err (refusal 2 at) ≡ check_answer (decode s)
     invariant-unknown e = ap (counted count) (sym (decode-unknown s at h left e)) ∙ answer-suc
 
-    invariant-cut : fetch_of s at ≡ Err Cut → Err (refusal 3 at) ≡ check_answer (decode s)
+    pub invariant-cut : fetch_of s at ≡ Err Cut → Err (refusal 3 at) ≡ check_answer (decode s)
     invariant-cut e = ap (counted count) (sym (decode-cut s at h left e)) ∙ answer-suc
 
     pub invariant-fault : (fault : Fault) → fetch_of s at ≡ Err fault → Err (refusal (faults_of fault) at) ≡ check_answer (decode s)

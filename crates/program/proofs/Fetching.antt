@@ -228,7 +228,7 @@ module _ (s : List ℕ) (at : ℕ) where
 
 -- a number of eight bytes is that of its halves
 module _ (s : List ℕ) (at : ℕ) where
-  half-whole : (z : ℤ) → at + 4 ≤ length s → unsigned_at 4 s at ≡ Some z → z ≡ pos (bits_at 4 s at)
+  pub half-whole : (z : ℤ) → at + 4 ≤ length s → unsigned_at 4 s at ≡ Some z → z ≡ pos (bits_at 4 s at)
   half-whole z h e = number (sym e ∙ unsigned_at-whole 4 s at h)
     where
       number : {y : ℤ} → Some z ≡ Some y → z ≡ y

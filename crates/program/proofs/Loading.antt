@@ -79,10 +79,10 @@ module _ (s : List ℕ) (old space : List ℤ) (at i : ℕ) (w : Writing s old s
     unfolding left
     left-suc = let f = w.full in omega arith
 
-    writing-unknown : fetch_of s at ≡ Err Unknown → space ≡ write_space s old
+    pub writing-unknown : fetch_of s at ≡ Err Unknown → space ≡ write_space s old
     writing-unknown e = nothing (ap (λ n. readable n (drop at s)) left-suc ∙ readable-unknown s at h left e)
 
-    writing-cut : fetch_of s at ≡ Err Cut → space ≡ write_space s old
+    pub writing-cut : fetch_of s at ≡ Err Cut → space ≡ write_space s old
     writing-cut e = nothing (ap (λ n. readable n (drop at s)) left-suc ∙ readable-cut s at h left e)
 
     pub writing-fault : (fault : Fault) → fetch_of s at ≡ Err fault → space ≡ write_space s old

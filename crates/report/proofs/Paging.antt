@@ -190,3 +190,11 @@ module _ (job old : List ℕ) where
 
     pub page_written : new ≡ page_out job old
     page_written = rw (le-ltb (length old) page_limit h) (w.space ∙ laid_at-zero (page_of job) old)
+
+  -- the same as the function's two clauses
+  pub page-short : length old < page_limit → record { answer : None ≡ page_answer job old; out : old ≡ page_out job old }
+  page-short h = page_short h
+
+  pub page-written : page_limit ≤ length old → (n : ℕ) (new : List ℕ) → Written (page_of job) old 0 n new
+      → record { answer : Some n ≡ page_answer job old; out : new ≡ page_out job old }
+  page-written h n new w = record { answer = page_answered h n new w; out = page_written h n new w }

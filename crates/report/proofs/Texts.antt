@@ -44,7 +44,7 @@ unfolding hexadecimal
 hexadecimal-length n = numeral-length 16 8 n
 
 -- a text for which there is room
-written-put : (text old : List ℕ) (at : ℕ) (put : Option ℕ) (next : ℕ) (new : List ℕ) → at + length text ≤ length old
+pub written-put : (text old : List ℕ) (at : ℕ) (put : Option ℕ) (next : ℕ) (new : List ℕ) → at + length text ≤ length old
     → put ≡ put_answer at text old → new ≡ put_out at text old → next ≡ unwrap_or put at → Written text old at next new
 written-put text old at put next new h p q r =
     let room = put-room at (length text) text old refl h in

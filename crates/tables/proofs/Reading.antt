@@ -144,7 +144,7 @@ module _ (o : Opcode) (a : Asked) where
     label-deep e = rw e
 
     -- otherwise by the first byte
-    label-first : (d ≡ 0 → ⊥) → leaf_read (leaf_of (token_at s at) a) at labels_inner ≡ label_at
+    pub label-first : (d ≡ 0 → ⊥) → leaf_read (leaf_of (token_at s at) a) at labels_inner ≡ label_at
     unfolding read_label
     label-first f = first d f
       where
@@ -214,7 +214,7 @@ module _ (o : Opcode) (a : Asked) where
     unfolding read_condition
     condition-deep e = rw e
 
-    condition-first : (d ≡ 0 → ⊥) → test_read (test_of (token_at s at)) at labels_within conditions_within ≡ condition_at
+    pub condition-first : (d ≡ 0 → ⊥) → test_read (test_of (token_at s at)) at labels_within conditions_within ≡ condition_at
     unfolding read_condition
     condition-first f = first d f
       where

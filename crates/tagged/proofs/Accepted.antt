@@ -49,7 +49,7 @@ table_kept (Read.refused r) e = never (cc)
 table_kept (table t) e = (t, refl)
 
 -- its handler is short
-handler-few : (bytes : List ℕ) (t : Table) → read_table bytes ≡ table t → length (translate t) ≤ 8192
+pub handler-few : (bytes : List ℕ) (t : Table) → read_table bytes ≡ table t → length (translate t) ≤ 8192
 handler-few bytes t q = handler-length t (read-writable bytes t q)
 
 module _ (sheet bytes : List ℕ) (row : List ℤ) (c : Clearances) (m : Memory) (handler : List ℤ) (fuel : ℕ) where

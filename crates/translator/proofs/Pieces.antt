@@ -48,7 +48,7 @@ module _ (d : ℕ) (s : List ℕ) (at : ℕ) where
   condition-deep e = rw e
 
   module _ (f : d ≡ 0 → ⊥) where
-    label-first : (x : Option Part) → part_of (token_at s at) ≡ x → label_code d s at ≡ label_piece x at (label_code (d - 1) s)
+    pub label-first : (x : Option Part) → part_of (token_at s at) ≡ x → label_code d s at ≡ label_piece x at (label_code (d - 1) s)
     unfolding label_code
     label-first x e = first d f
       where
@@ -77,7 +77,7 @@ module _ (d : ℕ) (s : List ℕ) (at : ℕ) where
       label-ends (inl i) = rw (label-empty i)
       label-ends (inr i) = rw ((label-word i.0 i.1).1)
 
-    condition-first : (x : Option Test) → test_of (token_at s at) ≡ x
+    pub condition-first : (x : Option Test) → test_of (token_at s at) ≡ x
         → condition_code d s at ≡ condition_piece x at (label_code (d - 1) s) (condition_code (d - 1) s)
     unfolding condition_code
     condition-first x e = first d f
@@ -104,7 +104,7 @@ module _ (d : ℕ) (s : List ℕ) (at : ℕ) where
 
 -- a rule, which a condition guards unless it always allows
 module _ (s : List ℕ) (at : ℕ) where
-  rule-first : (x : Option Test) → test_of (token_at s at) ≡ x → rule_code s at ≡ rule_piece x s at
+  pub rule-first : (x : Option Test) → test_of (token_at s at) ≡ x → rule_code s at ≡ rule_piece x s at
   unfolding rule_code
   rule-first x e = rw e
 

@@ -43,7 +43,22 @@ bits_at-lt k s at h f =
 pub bits_at-half : (k : ℕ) (s : List ℕ) (at : ℕ) → k < 8 → at + k ≤ length s → Bytes s → bits_at k s at < 2 ^ 63
 bits_at-half k s at p h f = omega (arith, bits_at-lt k s at h f, pow_mono {i = 8 * k} {j = 63} (omega arith))
 
--- the loop that reads a field goes down from its last byte: n is the number in the bytes from i on
+-- a field is read down from its last byte: n is the number in the bytes from i on
+module _ (s : List ℕ) (at k i n : ℕ) (p : 0 < i) (h : i ≤ k) (l : at + k ≤ length s)
+    (e : n ≡ bits_at (k - i) s (at + i)) where
+  pub bits_at-down : n * 256 + get_or s (at + (i - 1)) 0 ≡ bits_at (k - (i - 1)) s (at + (i - 1))
+  bits_at-down =
+      let m : k - (i - 1) ≡ suc (k - i) = omega arith in
+      let o : at + i ≡ suc (at + (i - 1)) = omega arith in
+      rw (e, m, o) (sym (bits_at-cons (k - i) s (at + (i - 1)) (omega arith)))
+
+  -- there is room for one byte more
+  pub bits_at-room : k ≤ 8 → Bytes s → n < 2 ^ 56
+  bits_at-room q f =
+      let small = bits_at-lt (k - i) s (at + i) (omega arith) f in
+      omega (arith, pow_mono {i = 8 * (k - i)} {j = 56} (omega arith))
+
+-- the loop goes so over a field that stands alone
 module _ (s : List ℕ) (i n : ℕ) (p : 0 < i) (h : i ≤ length s) (e : n ≡ value_of 256 (drop i s)) where
   pub value-down : n * 256 + get_or s (i - 1) 0 ≡ value_of 256 (drop (i - 1) s)
   unfolding value_of

@@ -1,6 +1,6 @@
 -- Reading numbers from text: what the loop over digits keeps, and that a number kept up to 10^19 is read as the number itself.
 -- Assumes nothing.
-use Rattle.std.proofs.Common.{◌≡◌, ℕ, zero, suc, ◌+◌, ◌-◌, ◌*◌, ◌^◌, ◌<◌, ◌≤◌, Bool, true, false, eqb, ltb, leb, List, [], ◌∷◌, map, length, get_or, drop, pos, negsuc, sym, refl, ap, ◌∙◌, add_comm, zero-add, ◌+ℤ◌, ◌-ℤ◌, arith, drop_of_length-le, drop-cons, ltb-false, ltb-true, le-ltb, lt-ltb, eq-eqb, ne_eqb, eqb-true, le-leb, leb-true, None}
+use Rattle.std.proofs.Common.{◌≡◌, ℕ, zero, suc, ◌+◌, ◌-◌, ◌*◌, ◌^◌, ◌<◌, ◌≤◌, Bool, true, false, eqb, ltb, leb, List, [], ◌∷◌, map, length, get_or, drop, pos, negsuc, sym, refl, ap, ◌∙◌, add_comm, zero-add, ◌+ℤ◌, ◌-ℤ◌, ℤ, arith, drop_of_length-le, drop-cons, ltb-false, ltb-true, le-ltb, lt-ltb, eq-eqb, ne_eqb, eqb-true, le-leb, leb-true, None, Option, Some}
 use mathlib.Core.List.{reverse_aux}
 use lib.ListN.{get_or-eq_default}
 use Rattle.word.specs.Choose.{choose}
@@ -142,10 +142,19 @@ pub beyond-plus : (n : ℕ) → 2 ^ 63 ≤ n → exactly (signed_by false n) ≡
 unfolding exactly
 beyond-plus n h = rw (le-ltb n (2 ^ 63) h)
 
+pub exact_below : (n : ℕ) → 0 < n → n ≤ 2 ^ 63 → exactly (signed_by true n) ≡ Some (negsuc (n - 1))
+unfolding exactly
+exact_below zero p h = absurd (omega arith)
+exact_below (suc n) p h = let e : suc n - 1 ≡ n = omega arith in rw (e, lt-ltb n (2 ^ 63) (omega arith))
+
 pub beyond-minus : (n : ℕ) → 2 ^ 63 < n → exactly (signed_by true n) ≡ None
 unfolding exactly
 beyond-minus zero h = absurd (omega arith)
 beyond-minus (suc n) h = rw (le-ltb n (2 ^ 63) (omega arith))
+
+pub exact_none : exactly (signed_by true 0) ≡ Some (pos 0)
+unfolding exactly
+exact_none = refl
 
 -- the number, as the kit's sums with an unsigned one give it
 pub minus-size : (n : ℕ) → pos 0 -ℤ pos n ≡ signed_by true n
@@ -172,6 +181,15 @@ decimal-kept minus at [] = rw (eq-eqb (at + 0) at (omega arith))
 decimal-kept minus at (d ∷ ds) =
     rw (ne_eqb (at + length (d ∷ ds)) at (λ e. omega arith))
     (ap (decimal_to (at + length (d ∷ ds))) (capped-exact minus (numeral_value 10 (d ∷ ds))))
+
+module _ (at n next : ℕ) where
+  decimal-some : (minus : Bool) (x : Option ℤ) → (next ≡ at → ⊥) → exactly (signed_by minus n) ≡ x
+      → decimal_to next x ≡ capped_decimal minus at n next
+  decimal-some minus x h e = rw (ne_eqb next at h, e)
+
+  pub minus_is : (m : Bool) → m ≡ true → (x : Option ℤ) → (next ≡ at → ⊥) → exactly (signed_by true n) ≡ x
+      → decimal_to next x ≡ capped_decimal m at n next
+  minus_is m b x h e = rw b (decimal-some true x h e)
 
 -- a minus stands within the text
 pub minus-within : (s : List ℕ) (at : ℕ) → eqb (get_or s at 0) 45 ≡ true → at < length s

@@ -8,7 +8,7 @@ use borrow.Rule.Slice.PartMut.{put_mid}
 use Rattle.word.specs.Lay.{laid, laid_at}
 use Rattle.word.specs.Text.{digit_char, numeral, digit_count, natural, decimal, put_answer, put_out}
 use Rattle.word.proofs.Signed.{back}
-use Rattle.word.proofs.Lay.{laid_at-cons, laid_at-snoc, laid_at-zero}
+use Rattle.word.proofs.Lay.{laid_at-nil, laid_at-cons, laid_at-snoc, laid_at-zero}
 use Rattle.word.proofs.Laws.Numeral.{numeral-none, numeral-snoc, numeral-length}
 use Rattle.word.proofs.Laws.Numeral.{digit_count-pos, digit_count-suffices, digit_count-within}
 
@@ -17,9 +17,8 @@ use Rattle.word.proofs.Laws.Numeral.{digit_count-pos, digit_count-suffices, digi
 -- ════════════════════════════════════════════════════════════════════════════════════════════
 
 -- nothing is left to write of a numeral at its start
-pub numeral-written : (b n : ℕ) (old : List ℕ) → laid (numeral b 0 n) old ≡ old
-unfolding laid
-numeral-written b n old = rw (numeral-none b n)
+pub numeral-written : (b i n at : ℕ) (old : List ℕ) → i ≤ 0 → old ≡ laid_at at (numeral b i n) old
+numeral-written b i n at old h = let e : i ≡ 0 = omega arith in rw (e, numeral-none b n) (sym (laid_at-nil at old))
 
 -- once its lowest digit is stored, what is left is the rest of it
 numeral-store : (b k n at : ℕ) (old : List ℕ) → at + k < length old
@@ -29,11 +28,21 @@ numeral-store b k n at old h =
     let s = laid_at-snoc at (numeral b k (n / b)) (digit_char (n % b)) old (rw l h) in
     rw (numeral-snoc b k n) (sym (rw l at s))
 
-pub numeral-stored : (b i n : ℕ) (old : List ℕ) → 0 < i → i ≤ length old
+pub numeral-stored : (b i n at : ℕ) (old : List ℕ) (x : ℕ) → 0 < i → at + i ≤ length old → x ≡ digit_char (n % b)
+    → laid_at at (numeral b (i - 1) (n / b)) (set old (at + (i - 1)) x) ≡ laid_at at (numeral b i n) old
+numeral-stored b i n at old x p h e =
+    let f : suc (i - 1) ≡ i = omega arith in
+    rw e (numeral-store b (i - 1) n at old (omega arith) ∙ ap (λ (j : ℕ). laid_at at (numeral b j n) old) f)
+
+-- both in a place of its own, which it is written in from the start on
+pub numeral-written-first : (b n : ℕ) (old : List ℕ) → laid (numeral b 0 n) old ≡ old
+numeral-written-first b n old = sym (numeral-written b 0 n 0 old (omega arith) ∙ laid_at-zero (numeral b 0 n) old)
+
+pub numeral-stored-first : (b i n : ℕ) (old : List ℕ) → 0 < i → i ≤ length old
     → laid (numeral b (i - 1) (n / b)) (set old (i - 1) (digit_char (n % b))) ≡ laid (numeral b i n) old
-numeral-stored b i n old p h =
-    let e : suc (i - 1) ≡ i = omega arith in
-    rw (e, zero-add (i - 1), laid_at-zero (numeral b (i - 1) (n / b)), laid_at-zero (numeral b i n) old) at (numeral-store b (i - 1) n 0 old (omega arith))
+numeral-stored-first b i n old p h =
+    rw (zero-add (i - 1), laid_at-zero (numeral b (i - 1) (n / b)), laid_at-zero (numeral b i n) old)
+    at (numeral-stored b i n 0 old (digit_char (n % b)) p (omega arith) refl)
 
 -- a numeral fills a place of its length
 pub numeral-fills : (b n : ℕ) (old : List ℕ) → laid (numeral b (length old) n) old ≡ numeral b (length old) n
@@ -57,6 +66,16 @@ count-is n k w l h = by (ltb k (digit_count 10 19 n)) refl
         let below = digit_count-suffices 10 19 n (omega arith) (omega arith) in
         absurd (omega (arith, l (omega arith), below, pow-le-pow_right {n = 10} (omega arith) {i = digit_count 10 19 n} {j = k} few))
 
+-- so many digits are too few for n, or all but one
+abbrev pub Counting : ℕ → ℕ → ℕ → Type 0
+Counting n count limit = (0 < count) × (count ≤ 19) × (limit ≡ 10 ^ count) × (1 < count → 10 ^ (count - 1) ≤ n)
+
+pub counting_more : (n count limit : ℕ) → Counting n count limit → count < 19 → limit ≤ n → Counting n (count + 1) (limit * 10)
+counting_more n count limit c h l =
+    let e : count + 1 ≡ suc count = omega arith in
+    let f : count + 1 - 1 ≡ count = omega arith in
+    (omega arith, omega arith, rw (e, pow-suc 10 count) (ap (λ (m : ℕ). m * 10) c.2), λ k. rw f (omega (arith, c.2)))
+
 -- one digit more than the power of ten that n reaches
 pub count-log : (n k : ℕ) → n < 2 ^ 64 → 10 ^ k ≤ max n 1 → max n 1 < 10 * 10 ^ k → k + 1 ≡ digit_count 10 19 n
 count-log n k w l h =
@@ -67,27 +86,35 @@ count-log n k w l h =
 -- Decimals
 -- ════════════════════════════════════════════════════════════════════════════════════════════
 
--- the text of a word of a given size with so many digits, by its sign
-module _ (z : ℤ) (size count : ℕ) (f : SFits w64 z) (s : size ≡ nat_abs (to_z w64 (of_z w64 z))) (k : count ≡ digit_count 10 19 size) where
+-- the text of a number of a given size with so many digits, by its sign
+module _ (z : ℤ) (size count : ℕ) (s : size ≡ nat_abs z) (k : count ≡ digit_count 10 19 size) where
   natural-numeral : natural (nat_abs z) ≡ numeral 10 count size
   unfolding natural
-  natural-numeral = rw (k, s, back f)
+  natural-numeral = rw (k, s)
 
-  pub decimal-negative : lt_z (to_z w64 (of_z w64 z)) (pos 0) ≡ true → decimal z ≡ 45 ∷ numeral 10 count size
+  pub decimal-negative : lt_z z (pos 0) ≡ true → decimal z ≡ 45 ∷ numeral 10 count size
   unfolding decimal
-  decimal-negative e = by z (rw (back f) at e) ∙ ap (λ (text : List ℕ). 45 ∷ text) natural-numeral
+  decimal-negative e = by z e ∙ ap (λ (text : List ℕ). 45 ∷ text) natural-numeral
     where
       by : (z : ℤ) → lt_z z (pos 0) ≡ true → decimal z ≡ 45 ∷ natural (nat_abs z)
       by (pos n) e = absurd (omega (arith, ltb-true n 0 e))
       by (negsuc n) e = refl
 
-  pub decimal-natural : lt_z (to_z w64 (of_z w64 z)) (pos 0) ≡ false → decimal z ≡ numeral 10 count size
+  pub decimal-natural : lt_z z (pos 0) ≡ false → decimal z ≡ numeral 10 count size
   unfolding decimal
-  decimal-natural e = by z (rw (back f) at e) ∙ natural-numeral
+  decimal-natural e = by z e ∙ natural-numeral
     where
       by : (z : ℤ) → lt_z z (pos 0) ≡ false → decimal z ≡ natural (nat_abs z)
       by (pos n) e = refl
       by (negsuc n) e = let z : ◌≡◌ {A = ℕ} 0 1 = cc in absurd (omega arith)
+
+-- and of a word, by what its bits are
+module _ (z : ℤ) (size count : ℕ) (f : SFits w64 z) (s : size ≡ nat_abs (to_z w64 (of_z w64 z))) (k : count ≡ digit_count 10 19 size) where
+  pub word-negative : lt_z (to_z w64 (of_z w64 z)) (pos 0) ≡ true → decimal z ≡ 45 ∷ numeral 10 count size
+  word-negative e = decimal-negative z size count (s ∙ ap nat_abs (back f)) k (rw (back f) at e)
+
+  pub word-natural : lt_z (to_z w64 (of_z w64 z)) (pos 0) ≡ false → decimal z ≡ numeral 10 count size
+  word-natural e = decimal-natural z size count (s ∙ ap nat_abs (back f)) k (rw (back f) at e)
 
 -- ════════════════════════════════════════════════════════════════════════════════════════════
 -- A text is written if there is room

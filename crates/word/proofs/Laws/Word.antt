@@ -64,7 +64,7 @@ module _ (k b : ℕ) (p : 0 < k) (h : k ≤ 64) where
     upper-negative : negsuc 0 -ℤ to_z w64 ((top k - 1) - (b - top k)) ≡ negsuc (2 ^ k - suc b)
     upper-negative = rw (upper.0, to_z_pos w64 upper.1) (minus_one (2 ^ k - suc b))
 
-    upper_fits : SFits w64 (negsuc 0 -ℤ to_z w64 ((top k - 1) - (b - top k)))
+    pub upper_fits : SFits w64 (negsuc 0 -ℤ to_z w64 ((top k - 1) - (b - top k)))
     upper_fits = rw upper-negative (record { sfits = upper.1 })
 
     pub upper-signed : to_z w64 (of_z w64 (negsuc 0 -ℤ to_z w64 ((top k - 1) - (b - top k)))) ≡ signed k b

@@ -4,7 +4,7 @@ use Rattle.std.proofs.Common.{◌+◌, ◌∷◌, ◌∙◌, arith}
 use Rattle.word.specs.Text.{numeral}
 use Rattle.word.proofs.Clauses.{both}
 use Rattle.word.proofs.Laws.Numeral.{numeral-length, digit_count-le}
-use Rattle.word.proofs.Laws.Text.{decimal-negative, decimal-natural, put-short, put-cons}
+use Rattle.word.proofs.Laws.Text.{word-negative, word-natural, put-short, put-cons}
 use Rattle.word.proofs.text.put_decimal.Goals as goal
 
 pub overflow_add-count : goal.overflow_add-count
@@ -16,7 +16,7 @@ returns-in_err-end c =
     let size = c.unsigned_abs-size.result in
     let count = c.digit_count-count.result in
     let text = numeral 10 count size in
-    rw (decimal-negative a.n size count c.ranges.n c.unsigned_abs-size.ensures.value c.digit_count-count.ensures c.if-n-lt0.true, c.from_residual.ensures)
+    rw (word-negative a.n size count c.ranges.n c.unsigned_abs-size.ensures.value c.digit_count-count.ensures c.if-n-lt0.true, c.from_residual.ensures)
     (both (put-short a.at (count + 1) (45 ∷ text) a.out.now (omega (arith, numeral-length 10 count size)) c.in_err-end.ensures))
 
 pub returns-then-n-lt0 : goal.returns-then-n-lt0
@@ -25,9 +25,9 @@ returns-then-n-lt0 c =
     let size = c.unsigned_abs-size.result in
     let count = c.digit_count-count.result in
     let put = put-cons a.at count 45 (numeral 10 count size) a.out.now (numeral-length 10 count size) c.in_ok-end.ensures.0 in
-    rw (decimal-negative a.n size count c.ranges.n c.unsigned_abs-size.ensures.value c.digit_count-count.ensures c.if-n-lt0.true)
+    rw (word-negative a.n size count c.ranges.n c.unsigned_abs-size.ensures.value c.digit_count-count.ensures c.if-n-lt0.true)
     (both (c.put_numeral.ensures.answer ∙ put.0, c.put_numeral.ensures.written ∙ put.1))
 
 pub returns : goal.returns
 returns c =
-    rw (decimal-natural c.args.n _ _ c.ranges.n c.unsigned_abs-size.ensures.value c.digit_count-count.ensures c.if-n-lt0.false) c.put_numeral-2.ensures
+    rw (word-natural c.args.n _ _ c.ranges.n c.unsigned_abs-size.ensures.value c.digit_count-count.ensures c.if-n-lt0.false) c.put_numeral-2.ensures
