@@ -88,9 +88,14 @@ module _ (s : Registers) (w : List ℤ) where
   unfolding Does DoesOn effect
   dup-none w' h row = sym (value_none s w _ h)
 
+  -- on one row, so that no other row is asked after
+  pub dup-done-on : (r : Step) (row w' : List ℤ) → 1 ≤ s.depth → DoesOn row (Push s.top) s w r row w' → DoesOn row Dup s w r row w'
+  unfolding DoesOn effect
+  dup-done-on r row w' h k = k ∙ sym (value-one s w (λ a rest. pushing s.place a (stack_of s w) row) h)
+
   pub dup-done : (r : Step) (w' : List ℤ) → 1 ≤ s.depth → Does (Push s.top) s w r w' → Does Dup s w r w'
-  unfolding Does DoesOn effect
-  dup-done r w' h k row = k row ∙ sym (value-one s w (λ a rest. pushing s.place a (stack_of s w) row) h)
+  unfolding Does
+  dup-done r w' h k row = dup-done-on r row w' h (k row)
 
   pub swap-none : (w' : List ℤ) → s.depth < 2 → Does Swap s w (Err End.Failed) w'
   unfolding Does DoesOn effect

@@ -104,12 +104,13 @@ module _ (count : ℕ) (space row₀ : List ℤ) where
           let z : count - steps ≡ suc (count - (steps + 1)) = omega (arith, g.few) in
           sym (ap (λ (n : ℕ). run (held space count) n (state s stack row steps)) z) ∙ g.left
 
-      module _ (r : Step) (stack' row' : List ℤ) (a : Acts row (instruction_at space s.place) s stack r row' stack') where
+      -- the instruction there is carried out where the row has seven words, as it has here
+      module _ (r : Step) (stack' row' : List ℤ) (a : length row ≡ 7 → Acts row (instruction_at space s.place) s stack r row' stack') where
         here : step (held space count) (state s stack row steps) ≡ effect_of r stack' row'
         unfolding step Acts
         here =
             let e = held_is (length space) count limit s.place h ∙ lt-ltb s.place limit p in
-            rw e (act-at (instruction_at space s.place) s stack row steps 0 ∙ sym a)
+            rw e (act-at (instruction_at space s.place) s stack row steps 0 ∙ sym (a g.words))
 
         by : (e : Effect) → effect_of r stack' row' ≡ e
             → after e (state s stack row steps) (λ y. run (held space count) (count - (steps + 1)) y)
